@@ -1,0 +1,3 @@
+-- Numbers in bytes: what a reader must believe of them.
+pub mod Little
+pub mod Signed

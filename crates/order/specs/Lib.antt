@@ -1,0 +1,2 @@
+-- The order of byte strings: what a reader must believe of it.
+pub mod Before
