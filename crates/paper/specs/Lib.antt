@@ -1,0 +1,22 @@
+-- Document 01, a file to a paragraph, in its order.
+pub mod Words
+pub mod Limits
+pub mod Refusals
+pub mod Metadata
+pub mod FirstBytes
+pub mod Meaning
+pub mod Values
+pub mod Normal
+pub mod Framing
+pub mod Schemas
+pub mod Cells
+pub mod Rows
+pub mod Rules
+pub mod Shredding
+pub mod Rebuilding
+pub mod Paths
+pub mod Boxes
+pub mod Operations
+pub mod Answers
+pub mod Running
+pub mod Lots

@@ -1,0 +1,160 @@
+-- The seven operations (01, The job): what each answers, and the bytes that it writes, from its inputs and the rooms of
+-- its output buffers. Each judges in the order of the refusals' numbers.
+use mathlib.Core.Bool.{Bool, true, false, cond, _&&_}
+use mathlib.Core.List.{List, [], _∷_}
+use mathlib.Core.Option.{Option, none, some}
+use Prim.Native.Nat.{ℕ}
+use lib.Dec.{leb}
+use lib.ListN.{length}
+use Rattle.paper.specs.Limits.{mostMetadata, mostValue, mostSchema, mostPath, mostRow, mostCell, mostLevels}
+use Rattle.paper.specs.Refusals.{Outcome, refused, reached, unless, orElse}
+use Rattle.paper.specs.Metadata.{Dictionary, dictionaryOf}
+use Rattle.paper.specs.Meaning.{Doc}
+use Rattle.paper.specs.Values.{Child, meaningOf}
+use Rattle.paper.specs.Normal.{Document, normalForm}
+use Rattle.paper.specs.Schemas.{columnCode, schemaOf}
+use Rattle.paper.specs.Cells.{cellMeaning, handedOut}
+use Rattle.paper.specs.Rows.{rowOf}
+use Rattle.paper.specs.Rules.{rowLawful}
+use Rattle.paper.specs.Shredding.{rowBytes}
+use Rattle.paper.specs.Rebuilding.{rowMeaning}
+use Rattle.paper.specs.Paths.{pathOf, findFrom}
+use Rattle.paper.specs.Boxes.{boxOf}
+use Rattle.paper.specs.declared.Refusal.{Refusal}
+use Rattle.paper.specs.declared.Refusal.the-variants.{TooLong, BadMetadata, BadValue, BadSchema, BadPath, BadRow, BrokenRule, TooLarge}
+use Rattle.paper.specs.declared.Checked.{Checked}
+use Rattle.paper.specs.declared.Found.{Found}
+use Rattle.paper.specs.declared.DocumentAnswer.{DocumentAnswer}
+use Rattle.paper.specs.declared.RowAnswer.{RowAnswer}
+use Rattle.paper.specs.declared.Cell.{Cell}
+use Rattle.paper.specs.declared.CellAnswer.{CellAnswer}
+use Rattle.paper.specs.declared.LotBox.{LotBox}
+use Rattle.paper.specs.declared.BoxAnswer.{BoxAnswer}
+
+-- A lent document judged, 2 and then 3, and what comes of its dictionary and its meaning.
+unfoldable pub judged : {A : Type 0} → List ℕ → List ℕ → (Dictionary → Doc → Outcome A) → Outcome A
+judged metadata value next =
+    orElse BadMetadata (dictionaryOf metadata) λ names.
+    orElse BadValue (meaningOf mostLevels names value) λ d.
+    next names d
+
+-- Metadata and value are no longer than they may be.
+unfoldable pub documentFits : List ℕ → List ℕ → Bool
+documentFits metadata value = leb (length metadata) mostMetadata && leb (length value) mostValue
+
+-- ---- check
+
+unfoldable pub checkOutcome : List ℕ → List ℕ → Outcome Doc
+checkOutcome metadata value =
+    unless TooLong (documentFits metadata value) (judged metadata value λ names d. reached d)
+
+unfoldable pub checkAnswer : List ℕ → List ℕ → Checked
+checkAnswer metadata value = answer (checkOutcome metadata value)
+  where
+    answer : Outcome Doc → Checked
+    answer (refused r) = Checked.Refused r
+    answer (reached d) = Checked.Good
+
+-- ---- find
+
+unfoldable pub findOutcome : List ℕ → List ℕ → List ℕ → Outcome (Option Child)
+findOutcome metadata value path =
+    unless TooLong (documentFits metadata value && leb (length path) mostPath)
+    (judged metadata value λ names d. orElse BadPath (pathOf path) λ steps. reached (findFrom names steps 0 value))
+
+unfoldable pub findAnswer : List ℕ → List ℕ → List ℕ → Found
+findAnswer metadata value path = answer (findOutcome metadata value path)
+  where
+    answer : Outcome (Option Child) → Found
+    answer (refused r) = Found.Refused r
+    answer (reached none) = Found.Absent
+    answer (reached (some child)) = Found.At (child .start) (child .size)
+
+-- ---- a document to be written: the normal form, if its value is no longer than a value may be
+
+unfoldable pub written : Doc → Outcome Document
+written d = unless TooLarge (leb (length (normalForm d .value)) mostValue) (reached (normalForm d))
+
+-- Into two buffers: both must have room.
+unfoldable pub documentRoom : Document → (metadataRoom valueRoom : ℕ) → Bool
+documentRoom document metadataRoom valueRoom =
+    leb (length (document .metadata)) metadataRoom && leb (length (document .value)) valueRoom
+
+unfoldable pub documentAnswer : Outcome Document → (metadataRoom valueRoom : ℕ) → DocumentAnswer
+documentAnswer (refused r) metadataRoom valueRoom = DocumentAnswer.Refused r
+documentAnswer (reached document) metadataRoom valueRoom =
+    cond (documentRoom document metadataRoom valueRoom)
+    (DocumentAnswer.Done (length (document .metadata)) (length (document .value)))
+    (DocumentAnswer.Short (length (document .metadata)) (length (document .value)))
+
+-- What stands in front of each buffer afterwards: nothing new, unless done.
+unfoldable pub metadataWritten : Outcome Document → (metadataRoom valueRoom : ℕ) → List ℕ
+metadataWritten (refused r) metadataRoom valueRoom = []
+metadataWritten (reached document) metadataRoom valueRoom =
+    cond (documentRoom document metadataRoom valueRoom) (document .metadata) []
+
+unfoldable pub valueWritten : Outcome Document → (metadataRoom valueRoom : ℕ) → List ℕ
+valueWritten (refused r) metadataRoom valueRoom = []
+valueWritten (reached document) metadataRoom valueRoom =
+    cond (documentRoom document metadataRoom valueRoom) (document .value) []
+
+-- ---- normalise
+
+unfoldable pub normaliseOutcome : List ℕ → List ℕ → Outcome Document
+normaliseOutcome metadata value =
+    unless TooLong (documentFits metadata value) (judged metadata value λ names d. written d)
+
+-- ---- shred
+
+unfoldable pub shredOutcome : List ℕ → List ℕ → List ℕ → Outcome (List ℕ)
+shredOutcome schema metadata value =
+    unless TooLong (leb (length schema) mostSchema && documentFits metadata value)
+    (judged metadata value λ names d.
+    orElse BadSchema (schemaOf schema) λ node.
+    unless TooLarge (leb (length (normalForm d .value)) mostValue && leb (length (rowBytes node d)) mostRow)
+    (reached (rowBytes node d)))
+
+unfoldable pub rowAnswer : Outcome (List ℕ) → (room : ℕ) → RowAnswer
+rowAnswer (refused r) room = RowAnswer.Refused r
+rowAnswer (reached row) room = cond (leb (length row) room) (RowAnswer.Done (length row)) (RowAnswer.Short (length row))
+
+unfoldable pub rowWritten : Outcome (List ℕ) → (room : ℕ) → List ℕ
+rowWritten (refused r) room = []
+rowWritten (reached row) room = cond (leb (length row) room) row []
+
+-- ---- rebuild
+
+unfoldable pub rebuildOutcome : List ℕ → List ℕ → Outcome Document
+rebuildOutcome schema row =
+    unless TooLong (leb (length schema) mostSchema && leb (length row) mostRow)
+    (orElse BadSchema (schemaOf schema) λ node.
+    orElse BadRow (rowOf node row) λ parsed.
+    unless BrokenRule (rowLawful node parsed) (written (rowMeaning node parsed)))
+
+-- ---- one typed cell: a type code is one of a schema's
+
+unfoldable pub cellOutcome : (code : ℕ) → List ℕ → Outcome Cell
+cellOutcome code s =
+    unless TooLong (leb (length s) mostCell)
+    (unless BadSchema (columnCode code) (orElse BadRow (cellMeaning code s) λ value. reached (handedOut value)))
+
+unfoldable pub cellAnswer : (code : ℕ) → List ℕ → CellAnswer
+cellAnswer code s = answer (cellOutcome code s)
+  where
+    answer : Outcome Cell → CellAnswer
+    answer (refused r) = CellAnswer.Refused r
+    answer (reached cell) = CellAnswer.Read cell
+
+-- ---- a lot's box
+
+unfoldable pub boxOutcome : List ℕ → List ℕ → Outcome (Option LotBox)
+boxOutcome metadata value =
+    unless TooLong (documentFits metadata value) (judged metadata value λ names d. reached (boxOf d))
+
+unfoldable pub boxAnswer : List ℕ → List ℕ → BoxAnswer
+boxAnswer metadata value = answer (boxOutcome metadata value)
+  where
+    answer : Outcome (Option LotBox) → BoxAnswer
+    answer (refused r) = BoxAnswer.Refused r
+    answer (reached none) = BoxAnswer.Absent
+    answer (reached (some box)) = BoxAnswer.Read box

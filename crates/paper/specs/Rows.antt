@@ -1,0 +1,99 @@
+-- Rows (01): `40` metadata, `50` the outermost place, nothing more; and when a row does not parse under its schema.
+use mathlib.Core.Bool.{Bool, true, false, _&&_}
+use mathlib.Core.List.{List, [], _∷_}
+use mathlib.Core.Option.{Option, none, some}
+use Prim.Native.Nat.{ℕ, _-_}
+use lib.Dec.{leb, eqb}
+use lib.ListN.{length}
+use Rattle.paper.specs.Words.{given, andThen}
+use Rattle.paper.specs.Limits.{mostLeftover, mostMetadata, mostLevels}
+use Rattle.paper.specs.Metadata.{Dictionary, dictionaryOf}
+use Rattle.paper.specs.Meaning.{Scalar, Doc}
+use Rattle.paper.specs.Values.{meaningOf}
+use Rattle.paper.specs.Framing.{Piece, piecesOf}
+use Rattle.paper.specs.Schemas.{Schema, leftoverOnly, column, list, fields, SchemaFields, noColumns, named}
+use Rattle.paper.specs.Cells.{cellMeaning}
+
+-- A place holds at most one `41` (leftover) and then at most one `42` (typed). Typed is a cell, or inner places: a list's,
+-- or an object's, one for each schema field in schema order.
+mutual
+  pub data Place : Type 0 where
+    empty : Place
+    leftover : Doc → Place
+    typed : Typed → Place
+    both : Doc → Typed → Place
+
+  pub data Typed : Type 0 where
+    cell : Scalar → Typed
+    inner : Places → Typed
+
+  pub data Places : Type 0 where
+    noPlaces : Places
+    place : Place → Places → Places
+
+-- A leftover: a Variant under the row's metadata, of at most so many bytes, and within the levels left at its place.
+unfoldable pub leftoverMeaning : (levels : ℕ) → Dictionary → List ℕ → Option Doc
+leftoverMeaning levels names s = given (leb (length s) mostLeftover) (meaningOf levels names s)
+
+-- What a place holds, by what reads a leftover and what reads a typed body.
+unfoldable pub placeParts : (List ℕ → Option Doc) → (List ℕ → Option Typed) → List Piece → Option Place
+placeParts left right [] = some empty
+placeParts left right (first ∷ []) = alone (eqb (first .tag) 0x41) (eqb (first .tag) 0x42)
+  where
+    alone : Bool → Bool → Option Place
+    alone true t = andThen (left (first .body)) λ d. some (leftover d)
+    alone false true = andThen (right (first .body)) λ t. some (typed t)
+    alone false false = none
+placeParts left right (first ∷ second ∷ []) =
+    given (eqb (first .tag) 0x41 && eqb (second .tag) 0x42)
+    (andThen (left (first .body)) λ d. andThen (right (second .body)) λ t. some (both d t))
+placeParts left right (first ∷ second ∷ third ∷ more) = none
+
+-- Every place, inner ones too, has the tag `50`.
+unfoldable pub placeBy : (List ℕ → Option Doc) → (List ℕ → Option Typed) → Piece → Option Place
+placeBy left right piece =
+    given (eqb (piece .tag) 0x50) (andThen (piecesOf (piece .body)) λ parts. placeParts left right parts)
+
+-- A list's places, by what reads one.
+unfoldable pub listPlaces : (Piece → Option Place) → List Piece → Option Places
+listPlaces read [] = some noPlaces
+listPlaces read (piece ∷ more) = andThen (read piece) λ p. andThen (listPlaces read more) λ ps. some (place p ps)
+
+-- A typed body under a node, with so many levels left at its place. Under node `00` there is none.
+unfoldable mutual
+  pub typedBody : Schema → (levels : ℕ) → Dictionary → List ℕ → Option Typed
+  typedBody leftoverOnly levels names s = none
+  typedBody (column code) levels names s = andThen (cellMeaning code s) λ value. some (cell value)
+  typedBody (list element) levels names s =
+      andThen (piecesOf s) λ pieces.
+      andThen (listPlaces (placeBy (leftoverMeaning (levels - 1) names) (λ body. typedBody element (levels - 1) names body)) pieces) λ ps.
+      some (inner ps)
+  typedBody (fields columns) levels names s =
+      andThen (piecesOf s) λ pieces. andThen (fieldPlaces columns (levels - 1) names pieces) λ ps. some (inner ps)
+
+  pub fieldPlaces : SchemaFields → (levels : ℕ) → Dictionary → List Piece → Option Places
+  fieldPlaces noColumns levels names [] = some noPlaces
+  fieldPlaces noColumns levels names (piece ∷ more) = none
+  fieldPlaces (named name node columns) levels names [] = none
+  fieldPlaces (named name node columns) levels names (piece ∷ more) =
+      andThen (placeBy (leftoverMeaning levels names) (λ body. typedBody node levels names body) piece) λ p.
+      andThen (fieldPlaces columns levels names more) λ ps.
+      some (place p ps)
+
+-- A row that parses: its dictionary and its outermost place.
+pub record Row : Type 0 where
+  pub names : Dictionary
+  pub outermost : Place
+
+unfoldable pub rowParts : Schema → List Piece → Option Row
+rowParts schema [] = none
+rowParts schema (first ∷ []) = none
+rowParts schema (first ∷ second ∷ []) =
+    given (eqb (first .tag) 0x40 && leb (length (first .body)) mostMetadata)
+    (andThen (dictionaryOf (first .body)) λ names.
+    andThen (placeBy (leftoverMeaning mostLevels names) (typedBody schema mostLevels names) second) λ p.
+    some (record { names = names; outermost = p }))
+rowParts schema (first ∷ second ∷ third ∷ more) = none
+
+unfoldable pub rowOf : Schema → List ℕ → Option Row
+rowOf schema s = andThen (piecesOf s) λ pieces. rowParts schema pieces

@@ -1,0 +1,92 @@
+// Document 01 as definitions: everything that a reader must believe is in `specs/`, a file to a paragraph of 01, in its
+// order. This file has the types of the answers, which the definitions and the operations share.
+ghost use mathlib.Core.Path.{_≡_};
+ghost use Rattle.paper.specs.Refusals.{refusalNumber};
+
+// Why the register says no, in the order of 01's numbers 1 to 8. (9 is an answer that carries the lengths needed.)
+pub enum Refusal {
+    TooLong,
+    BadMetadata,
+    BadValue,
+    BadSchema,
+    BadPath,
+    BadRow,
+    BrokenRule,
+    TooLarge,
+}
+
+// The number that 01 gives a refusal.
+pub fn number(refusal: Refusal) -> u8
+    ensures { λ r. ⌜ r ≡ refusalNumber refusal ⌝ }
+{
+    match refusal {
+        Refusal::TooLong => 1,
+        Refusal::BadMetadata => 2,
+        Refusal::BadValue => 3,
+        Refusal::BadSchema => 4,
+        Refusal::BadPath => 5,
+        Refusal::BadRow => 6,
+        Refusal::BrokenRule => 7,
+        Refusal::TooLarge => 8,
+    }
+}
+
+// The answer of check.
+pub enum Checked {
+    Good,
+    Refused(Refusal),
+}
+
+// The answer of find.
+pub enum Found {
+    At { start: usize, length: usize },
+    Absent,
+    Refused(Refusal),
+}
+
+// The answer of normalise and of rebuild: the lengths written, or, where a buffer is too short, the lengths needed.
+pub enum DocumentAnswer {
+    Done { metadata: usize, value: usize },
+    Short { metadata: usize, value: usize },
+    Refused(Refusal),
+}
+
+// The answer of shred: the length written, or, where the buffer is too short, the length needed.
+pub enum RowAnswer {
+    Done(usize),
+    Short(usize),
+    Refused(Refusal),
+}
+
+// One typed cell. A float's bits cross only off a NaN in today's toolchain, so a NaN comes out as its bits.
+pub enum Cell {
+    Boolean(bool),
+    Integer(i64),
+    Float(f32),
+    Double(f64),
+    FloatNan(u32),
+    DoubleNan(u64),
+    Length(usize),
+    Uuid { first: u64, second: u64 },
+}
+
+// The answer of the cell reader.
+pub enum CellAnswer {
+    Read(Cell),
+    Refused(Refusal),
+}
+
+// A lot's box.
+pub struct LotBox {
+    pub east: f64,
+    pub north: f64,
+    pub south: f64,
+    pub west: f64,
+}
+
+// The answer of the box reader.
+pub enum BoxAnswer {
+    Read(LotBox),
+    Absent,
+    Refused(Refusal),
+}
