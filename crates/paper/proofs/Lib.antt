@@ -1,2 +1,3 @@
--- What is shown of the definitions of 01.
+-- What is shown of the definitions of 01: laws for the proofs above, and the sample lots.
+pub mod WordLaws
 pub mod SampleLots

@@ -4,15 +4,8 @@ use mathlib.Core.List.{List, [], _∷_}
 use Prim.Native.Nat.{ℕ, zero, suc, _+_, _*_, _/_, _%_}
 use lib.Dec.{leb, eqb}
 use lib.ListN.{getD}
-
--- What a first byte says. Numbers are bytes that a count, an id, an offset or a payload takes.
-pub data Reading : Type 0 where
-  fixed : (type size : ℕ) → Reading  -- a primitive with a payload of that size
-  prefixed : (type : ℕ) → Reading  -- binary or string: a four-byte length, then that many bytes
-  shortString : (size : ℕ) → Reading  -- a short string of that many bytes
-  objectHead : (count id offset : ℕ) → Reading
-  arrayHead : (count offset : ℕ) → Reading
-  noReading : Reading  -- types 21 to 63, or an unused bit that is not zero
+use Rattle.paper.specs.declared.Reading.{Reading}
+use Rattle.paper.specs.declared.Reading.the-variants.{Fixed, Prefixed, Short, ObjectHead, ArrayHead, Nothing}
 
 -- The mark of the two types whose payload has its length in front.
 unfoldable pub lengthPrefixed : ℕ
@@ -26,8 +19,8 @@ payloadSizes =
 unfoldable pub primitiveReading : ℕ → Reading
 primitiveReading type =
     cond (leb type 20)
-    (cond (eqb (getD payloadSizes type 0) lengthPrefixed) (prefixed type) (fixed type (getD payloadSizes type 0)))
-    noReading
+    (cond (eqb (getD payloadSizes type 0) lengthPrefixed) (Prefixed type) (Fixed type (getD payloadSizes type 0)))
+    Nothing
 
 -- A count takes 1 byte, or 4 if large.
 unfoldable pub countSize : ℕ → ℕ
@@ -38,11 +31,11 @@ countSize large = 1 + 3 * large
 -- in two bits, large in one, three unused.
 unfoldable pub kindReading : (kind rest : ℕ) → Reading
 kindReading zero rest = primitiveReading rest
-kindReading (suc zero) rest = shortString rest
+kindReading (suc zero) rest = Short rest
 kindReading (suc (suc zero)) rest =
-    cond (eqb (rest / 32) 0) (objectHead (countSize (rest / 16 % 2)) (rest / 4 % 4 + 1) (rest % 4 + 1)) noReading
+    cond (eqb (rest / 32) 0) (ObjectHead (countSize (rest / 16 % 2)) (rest / 4 % 4 + 1) (rest % 4 + 1)) Nothing
 kindReading (suc (suc (suc more))) rest =
-    cond (eqb (rest / 8) 0) (arrayHead (countSize (rest / 4 % 2)) (rest % 4 + 1)) noReading
+    cond (eqb (rest / 8) 0) (ArrayHead (countSize (rest / 4 % 2)) (rest % 4 + 1)) Nothing
 
 unfoldable pub readingOf : ℕ → Reading
 readingOf first = kindReading (first % 4) (first / 4)

@@ -41,13 +41,6 @@ rising [] = true
 rising (a ∷ []) = true
 rising (a ∷ b ∷ more) = before a b && rising (b ∷ more)
 
--- The names that offsets cut out of an area: the first offset is 0, offsets never fall, the last is the area's length;
--- with the flag set the names rise strictly.
-unfoldable pub namesOf : Bool → List ℕ → List ℕ → Option Dictionary
-namesOf flag offsets area =
-    given (eqb (at offsets 0) 0 && (neverFall offsets && eqb (lastOf offsets) (length area)))
-    (given (not flag || rising (cutAt area offsets)) (some (cutAt area offsets)))
-
 -- Where the offsets start, and where the names do, which end the metadata.
 unfoldable pub offsetsStart : List ℕ → ℕ
 offsetsStart metadata = 1 + offsetSize (at metadata 0)
@@ -58,11 +51,28 @@ nameCount metadata = numberAt metadata 1 (offsetSize (at metadata 0))
 unfoldable pub namesStart : List ℕ → ℕ
 namesStart metadata = offsetsStart metadata + (nameCount metadata + 1) * offsetSize (at metadata 0)
 
--- The dictionary of lent metadata, if it keeps its rules.
+unfoldable pub nameOffsets : List ℕ → List ℕ
+nameOffsets metadata = numbers (offsetSize (at metadata 0)) (nameCount metadata + 1) (drop (offsetsStart metadata) metadata)
+
+unfoldable pub namesArea : List ℕ → List ℕ
+namesArea metadata = drop (namesStart metadata) metadata
+
+unfoldable pub namesIn : List ℕ → Dictionary
+namesIn metadata = cutAt (namesArea metadata) (nameOffsets metadata)
+
+-- The count and the offsets are there.
+unfoldable pub framed : List ℕ → Bool
+framed metadata = leb (offsetsStart metadata) (length metadata) && leb (namesStart metadata) (length metadata)
+
+-- The first offset is 0, offsets never fall, the last is the length of the names.
+unfoldable pub offsetsGood : List ℕ → List ℕ → Bool
+offsetsGood offsets area = eqb (at offsets 0) 0 && (neverFall offsets && eqb (lastOf offsets) (length area))
+
+-- The dictionary of lent metadata, if it keeps its rules. With the flag set, names rise strictly; without it, any order
+-- and repeats are legal.
 unfoldable pub dictionaryOf : List ℕ → Option Dictionary
 dictionaryOf metadata =
     given (leb 1 (length metadata) && headerGood (at metadata 0))
-    (given (leb (offsetsStart metadata) (length metadata) && leb (namesStart metadata) (length metadata))
-    (namesOf (flagSet (at metadata 0))
-    (numbers (offsetSize (at metadata 0)) (nameCount metadata + 1) (drop (offsetsStart metadata) metadata))
-    (drop (namesStart metadata) metadata)))
+    (given (framed metadata)
+    (given (offsetsGood (nameOffsets metadata) (namesArea metadata))
+    (given (not (flagSet (at metadata 0)) || rising (namesIn metadata)) (some (namesIn metadata)))))

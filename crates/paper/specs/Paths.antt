@@ -8,7 +8,9 @@ use lib.ListN.{length}
 use Rattle.numbers.specs.Little.{number, numberAt}
 use Rattle.paper.specs.Words.{at, given, andThen, same}
 use Rattle.paper.specs.Metadata.{Dictionary}
-use Rattle.paper.specs.FirstBytes.{Reading, fixed, prefixed, shortString, objectHead, arrayHead, noReading, readingOf}
+use Rattle.paper.specs.FirstBytes.{readingOf}
+use Rattle.paper.specs.declared.Reading.{Reading}
+use Rattle.paper.specs.declared.Reading.the-variants.{Fixed, Prefixed, Short, ObjectHead, ArrayHead, Nothing}
 use Rattle.paper.specs.Values.{Child, childBytes, headSize, membersOf, elementsOf, namesAt, idsOf}
 use Rattle.paper.specs.Framing.{Piece, piecesOf}
 
@@ -54,27 +56,27 @@ behindHead head child = record { start = head + child .start; size = child .size
 
 -- A name leads into an object that has it.
 unfoldable pub intoField : Dictionary → List ℕ → Reading → List ℕ → Option Child
-intoField names name (objectHead count id offset) s =
+intoField names name (ObjectHead count id offset) s =
     andThen (membersOf names count id offset s) λ children.
     andThen (childNamed name (namesAt names (idsOf count id s)) children) λ child.
     some (behindHead (headSize (numberAt s 1 count) count id offset) child)
-intoField names name (arrayHead count offset) s = none
-intoField names name (fixed type size) s = none
-intoField names name (prefixed type) s = none
-intoField names name (shortString size) s = none
-intoField names name noReading s = none
+intoField names name (ArrayHead count offset) s = none
+intoField names name (Fixed type size) s = none
+intoField names name (Prefixed type) s = none
+intoField names name (Short size) s = none
+intoField names name Nothing s = none
 
 -- An index leads into an array that is long enough.
 unfoldable pub intoElement : ℕ → Reading → List ℕ → Option Child
-intoElement index (arrayHead count offset) s =
+intoElement index (ArrayHead count offset) s =
     andThen (elementsOf count offset s) λ children.
     andThen (childNumber index children) λ child.
     some (behindHead (headSize (numberAt s 1 count) count 0 offset) child)
-intoElement index (objectHead count id offset) s = none
-intoElement index (fixed type size) s = none
-intoElement index (prefixed type) s = none
-intoElement index (shortString size) s = none
-intoElement index noReading s = none
+intoElement index (ObjectHead count id offset) s = none
+intoElement index (Fixed type size) s = none
+intoElement index (Prefixed type) s = none
+intoElement index (Short size) s = none
+intoElement index Nothing s = none
 
 unfoldable pub stepInto : Dictionary → Step → List ℕ → Option Child
 stepInto names (byName name) s = intoField names name (readingOf (at s 0)) s

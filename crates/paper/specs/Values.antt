@@ -10,7 +10,9 @@ use lib.ListN.{length, getD, take, drop}
 use Rattle.numbers.specs.Little.{numberAt}
 use Rattle.paper.specs.Words.{at, given, andThen, numbers, allBelow}
 use Rattle.paper.specs.Metadata.{Dictionary, rising}
-use Rattle.paper.specs.FirstBytes.{Reading, fixed, prefixed, shortString, objectHead, arrayHead, noReading, readingOf}
+use Rattle.paper.specs.FirstBytes.{readingOf}
+use Rattle.paper.specs.declared.Reading.{Reading}
+use Rattle.paper.specs.declared.Reading.the-variants.{Fixed, Prefixed, Short, ObjectHead, ArrayHead, Nothing}
 use Rattle.paper.specs.Meaning.{Scalar, boolean, payload, text, Doc, null, scalar, array, object, Docs, noDocs, doc, Fields, noFields, field}
 
 -- ---- how long the value that starts here says it is
@@ -27,12 +29,12 @@ containerExtent countBytes idBytes offsetBytes s =
 
 -- By its header, count and last offset alone, or a string's or binary's length.
 unfoldable pub extentBy : Reading → List ℕ → Option ℕ
-extentBy (fixed type size) s = some (1 + size)
-extentBy (prefixed type) s = given (leb 5 (length s)) (some (5 + numberAt s 1 4))
-extentBy (shortString size) s = some (1 + size)
-extentBy (objectHead count id offset) s = containerExtent count id offset s
-extentBy (arrayHead count offset) s = containerExtent count 0 offset s
-extentBy noReading s = none
+extentBy (Fixed type size) s = some (1 + size)
+extentBy (Prefixed type) s = given (leb 5 (length s)) (some (5 + numberAt s 1 4))
+extentBy (Short size) s = some (1 + size)
+extentBy (ObjectHead count id offset) s = containerExtent count id offset s
+extentBy (ArrayHead count offset) s = containerExtent count 0 offset s
+extentBy Nothing s = none
 
 unfoldable pub extent : List ℕ → Option ℕ
 extent [] = none
@@ -143,18 +145,18 @@ memberDocs inner area (name ∷ names) (child ∷ more) =
 
 -- A value by the reading of its first byte, its children by what decodes one.
 unfoldable pub meaningBy : (List ℕ → Option Doc) → Dictionary → Reading → List ℕ → Option Doc
-meaningBy inner names (fixed type size) s = primitiveMeaning type (drop 1 s)
-meaningBy inner names (prefixed type) s = some (prefixedMeaning (eqb type 16) type (drop 5 s))
-meaningBy inner names (shortString size) s = some (scalar (text (drop 1 s)))
-meaningBy inner names (objectHead count id offset) s =
+meaningBy inner names (Fixed type size) s = primitiveMeaning type (drop 1 s)
+meaningBy inner names (Prefixed type) s = some (prefixedMeaning (eqb type 16) type (drop 5 s))
+meaningBy inner names (Short size) s = some (scalar (text (drop 1 s)))
+meaningBy inner names (ObjectHead count id offset) s =
     andThen (membersOf names count id offset s) λ children.
     andThen (memberDocs inner (areaOf count id offset s) (namesAt names (idsOf count id s)) children) λ fs.
     some (object fs)
-meaningBy inner names (arrayHead count offset) s =
+meaningBy inner names (ArrayHead count offset) s =
     andThen (elementsOf count offset s) λ children.
     andThen (elementDocs inner (areaOf count 0 offset s) children) λ ds.
     some (array ds)
-meaningBy inner names noReading s = none
+meaningBy inner names Nothing s = none
 
 -- A value fills its bytes: it ends where they do.
 unfoldable pub whole : List ℕ → Bool

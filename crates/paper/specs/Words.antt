@@ -20,6 +20,11 @@ unfoldable pub given {ℓ} : {A : Type ℓ} → Bool → Option A → Option A
 given true x = x
 given false x = none
 
+-- It is there.
+unfoldable pub isThere {ℓ} : {A : Type ℓ} → Option A → Bool
+isThere none = false
+isThere (some a) = true
+
 -- What comes of something, if it is there.
 unfoldable pub andThen {ℓ κ} : {A : Type ℓ} {B : Type κ} → Option A → (A → Option B) → Option B
 andThen none next = none

@@ -31,6 +31,34 @@ pub fn number(refusal: Refusal) -> u8
     }
 }
 
+// What a first byte says. Numbers are the bytes that a count, an id, an offset or a payload takes.
+pub enum Reading {
+    // A primitive with a payload of that size.
+    Fixed {
+        code: usize,
+        size: usize,
+    },
+    // Binary or string: a four-byte length, then that many bytes.
+    Prefixed {
+        code: usize,
+    },
+    // A short string of that many bytes.
+    Short {
+        size: usize,
+    },
+    ObjectHead {
+        count: usize,
+        id: usize,
+        offset: usize,
+    },
+    ArrayHead {
+        count: usize,
+        offset: usize,
+    },
+    // Types 21 to 63, or an unused bit that is not zero.
+    Nothing,
+}
+
 // The answer of check.
 pub enum Checked {
     Good,
