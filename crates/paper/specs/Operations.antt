@@ -48,12 +48,12 @@ unfoldable pub checkOutcome : List ℕ → List ℕ → Outcome Doc
 checkOutcome metadata value =
     unless TooLong (documentFits metadata value) (judged metadata value λ names d. reached d)
 
+unfoldable pub checkedBy : Outcome Doc → Checked
+checkedBy (refused r) = Checked.Refused r
+checkedBy (reached d) = Checked.Good
+
 unfoldable pub checkAnswer : List ℕ → List ℕ → Checked
-checkAnswer metadata value = answer (checkOutcome metadata value)
-  where
-    answer : Outcome Doc → Checked
-    answer (refused r) = Checked.Refused r
-    answer (reached d) = Checked.Good
+checkAnswer metadata value = checkedBy (checkOutcome metadata value)
 
 -- ---- find
 
@@ -62,13 +62,13 @@ findOutcome metadata value path =
     unless TooLong (documentFits metadata value && leb (length path) mostPath)
     (judged metadata value λ names d. orElse BadPath (pathOf path) λ steps. reached (findFrom names steps 0 value))
 
+unfoldable pub foundBy : Outcome (Option Child) → Found
+foundBy (refused r) = Found.Refused r
+foundBy (reached none) = Found.Absent
+foundBy (reached (some child)) = Found.At (child .start) (child .size)
+
 unfoldable pub findAnswer : List ℕ → List ℕ → List ℕ → Found
-findAnswer metadata value path = answer (findOutcome metadata value path)
-  where
-    answer : Outcome (Option Child) → Found
-    answer (refused r) = Found.Refused r
-    answer (reached none) = Found.Absent
-    answer (reached (some child)) = Found.At (child .start) (child .size)
+findAnswer metadata value path = foundBy (findOutcome metadata value path)
 
 -- ---- a document to be written: the normal form, if its value is no longer than a value may be
 
@@ -138,12 +138,12 @@ cellOutcome code s =
     unless TooLong (leb (length s) mostCell)
     (unless BadSchema (columnCode code) (orElse BadRow (cellMeaning code s) λ value. reached (handedOut value)))
 
+unfoldable pub cellReadBy : Outcome Cell → CellAnswer
+cellReadBy (refused r) = CellAnswer.Refused r
+cellReadBy (reached cell) = CellAnswer.Read cell
+
 unfoldable pub cellAnswer : (code : ℕ) → List ℕ → CellAnswer
-cellAnswer code s = answer (cellOutcome code s)
-  where
-    answer : Outcome Cell → CellAnswer
-    answer (refused r) = CellAnswer.Refused r
-    answer (reached cell) = CellAnswer.Read cell
+cellAnswer code s = cellReadBy (cellOutcome code s)
 
 -- ---- a lot's box
 
@@ -151,10 +151,10 @@ unfoldable pub boxOutcome : List ℕ → List ℕ → Outcome (Option LotBox)
 boxOutcome metadata value =
     unless TooLong (documentFits metadata value) (judged metadata value λ names d. reached (boxOf d))
 
+unfoldable pub boxReadBy : Outcome (Option LotBox) → BoxAnswer
+boxReadBy (refused r) = BoxAnswer.Refused r
+boxReadBy (reached none) = BoxAnswer.Absent
+boxReadBy (reached (some box)) = BoxAnswer.Read box
+
 unfoldable pub boxAnswer : List ℕ → List ℕ → BoxAnswer
-boxAnswer metadata value = answer (boxOutcome metadata value)
-  where
-    answer : Outcome (Option LotBox) → BoxAnswer
-    answer (refused r) = BoxAnswer.Refused r
-    answer (reached none) = BoxAnswer.Absent
-    answer (reached (some box)) = BoxAnswer.Read box
+boxAnswer metadata value = boxReadBy (boxOutcome metadata value)

@@ -1,5 +1,5 @@
 -- Paths and find (01): steps `60` name or `61` two-byte index, both framed.
-use mathlib.Core.Bool.{Bool, true, false}
+use mathlib.Core.Bool.{cond, _&&_}
 use mathlib.Core.List.{List, [], _∷_}
 use mathlib.Core.Option.{Option, none, some}
 use Prim.Native.Nat.{ℕ, zero, suc, _+_}
@@ -19,12 +19,9 @@ pub data Step : Type 0 where
   byIndex : ℕ → Step
 
 unfoldable pub stepOf : Piece → Option Step
-stepOf piece = by (eqb (piece .tag) 0x60) (eqb (piece .tag) 0x61)
-  where
-    by : Bool → Bool → Option Step
-    by true other = some (byName (piece .body))
-    by false true = given (eqb (length (piece .body)) 2) (some (byIndex (number (piece .body))))
-    by false false = none
+stepOf piece =
+    cond (eqb (piece .tag) 0x60) (some (byName (piece .body)))
+    (given (eqb (piece .tag) 0x61 && eqb (length (piece .body)) 2) (some (byIndex (number (piece .body)))))
 
 unfoldable pub stepsOf : List Piece → Option (List Step)
 stepsOf [] = some []
@@ -39,11 +36,7 @@ pathOf s = andThen (piecesOf s) stepsOf
 unfoldable pub childNamed : List ℕ → List (List ℕ) → List Child → Option Child
 childNamed name [] children = none
 childNamed name (first ∷ names) [] = none
-childNamed name (first ∷ names) (child ∷ more) = pick (same first name) (childNamed name names more)
-  where
-    pick : Bool → Option Child → Option Child
-    pick true rest = some child
-    pick false rest = rest
+childNamed name (first ∷ names) (child ∷ more) = cond (same first name) (some child) (childNamed name names more)
 
 unfoldable pub childNumber : ℕ → List Child → Option Child
 childNumber index [] = none

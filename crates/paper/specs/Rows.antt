@@ -1,5 +1,5 @@
 -- Rows (01): `40` metadata, `50` the outermost place, nothing more; and when a row does not parse under its schema.
-use mathlib.Core.Bool.{Bool, true, false, _&&_}
+use mathlib.Core.Bool.{cond, _&&_}
 use mathlib.Core.List.{List, [], _∷_}
 use mathlib.Core.Option.{Option, none, some}
 use Prim.Native.Nat.{ℕ, _-_}
@@ -38,12 +38,9 @@ leftoverMeaning levels names s = given (leb (length s) mostLeftover) (meaningOf 
 -- What a place holds, by what reads a leftover and what reads a typed body.
 unfoldable pub placeParts : (List ℕ → Option Doc) → (List ℕ → Option Typed) → List Piece → Option Place
 placeParts left right [] = some empty
-placeParts left right (first ∷ []) = alone (eqb (first .tag) 0x41) (eqb (first .tag) 0x42)
-  where
-    alone : Bool → Bool → Option Place
-    alone true t = andThen (left (first .body)) λ d. some (leftover d)
-    alone false true = andThen (right (first .body)) λ t. some (typed t)
-    alone false false = none
+placeParts left right (first ∷ []) =
+    cond (eqb (first .tag) 0x41) (andThen (left (first .body)) λ d. some (leftover d))
+    (given (eqb (first .tag) 0x42) (andThen (right (first .body)) λ t. some (typed t)))
 placeParts left right (first ∷ second ∷ []) =
     given (eqb (first .tag) 0x41 && eqb (second .tag) 0x42)
     (andThen (left (first .body)) λ d. andThen (right (second .body)) λ t. some (both d t))

@@ -99,15 +99,16 @@ breaksF names name p = (hasLeftover p || hasTyped p) && not (among name names)
 
 -- ---- a place and all inside it break none
 
+-- What is typed in a place breaks none.
+unfoldable pub insideLawful : (Typed → Bool) → Place → Bool
+insideLawful typedLawful empty = true
+insideLawful typedLawful (leftover d) = true
+insideLawful typedLawful (typed t) = typedLawful t
+insideLawful typedLawful (both d t) = typedLawful t
+
 unfoldable pub placeLawful : Schema → (Typed → Bool) → Place → Bool
 placeLawful node typedLawful p =
-    not (breaksA node p || (breaksB p || (breaksC node p || breaksD node p))) && insideLawful p
-  where
-    insideLawful : Place → Bool
-    insideLawful empty = true
-    insideLawful (leftover d) = true
-    insideLawful (typed t) = typedLawful t
-    insideLawful (both d t) = typedLawful t
+    not (breaksA node p || (breaksB p || (breaksC node p || breaksD node p))) && insideLawful typedLawful p
 
 unfoldable pub elementsLawful : (Place → Bool) → Places → Bool
 elementsLawful lawfulOne noPlaces = true

@@ -1,5 +1,5 @@
 -- What shred writes (01): normal metadata and normal leftovers.
-use mathlib.Core.Bool.{Bool, true, false}
+use mathlib.Core.Bool.{Bool, true, false, cond}
 use mathlib.Core.List.{List, [], _∷_, _++_}
 use mathlib.Core.Option.{Option, none, some}
 use Prim.Native.Nat.{ℕ}
@@ -15,20 +15,12 @@ use Rattle.paper.specs.Rows.{Place, empty, leftover, typed, both, Typed,
 -- The field of a name.
 unfoldable pub fieldAt : (name : List ℕ) → Fields → Option Doc
 fieldAt name noFields = none
-fieldAt name (field first d fs) = pick (same first name) (fieldAt name fs)
-  where
-    pick : Bool → Option Doc → Option Doc
-    pick true rest = some d
-    pick false rest = rest
+fieldAt name (field first d fs) = cond (same first name) (some d) (fieldAt name fs)
 
 -- The fields that are not named.
 unfoldable pub unnamed : List (List ℕ) → Fields → Fields
 unnamed names noFields = noFields
-unnamed names (field name d fs) = keep (among name names) (unnamed names fs)
-  where
-    keep : Bool → Fields → Fields
-    keep true rest = rest
-    keep false rest = field name d rest
+unnamed names (field name d fs) = cond (among name names) (unnamed names fs) (field name d (unnamed names fs))
 
 -- ---- what each place holds
 

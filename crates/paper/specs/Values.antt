@@ -1,14 +1,14 @@
 -- "Values" (01): how long a value says it is, how an array's and an object's children lie, and what lawful bytes mean.
 -- The order of judging inside a value: its own header, count, ids, order and offsets; then its children's lengths; then
 -- gaps and overlaps; then the children's insides in field or array order.
-use mathlib.Core.Bool.{Bool, true, false, _&&_}
+use mathlib.Core.Bool.{Bool, true, false, not, _&&_, _||_}
 use mathlib.Core.List.{List, [], _∷_, map}
 use mathlib.Core.Option.{Option, none, some}
 use Prim.Native.Nat.{ℕ, zero, suc, _+_, _-_, _*_}
 use lib.Dec.{leb, ltb, eqb}
 use lib.ListN.{length, getD, take, drop}
 use Rattle.numbers.specs.Little.{numberAt}
-use Rattle.paper.specs.Words.{at, given, andThen, numbers, allBelow}
+use Rattle.paper.specs.Words.{at, oneIf, given, andThen, numbers, allBelow}
 use Rattle.paper.specs.Metadata.{Dictionary, rising}
 use Rattle.paper.specs.FirstBytes.{readingOf}
 use Rattle.paper.specs.declared.Reading.{Reading}
@@ -63,11 +63,8 @@ endToEnd from end (child ∷ more) = eqb (child .start) from && endToEnd (child 
 -- How many children a byte of the area is in.
 unfoldable pub holders : ℕ → List Child → ℕ
 holders place [] = 0
-holders place (child ∷ more) = inside (leb (child .start) place && ltb place (child .start + child .size)) + holders place more
-  where
-    inside : Bool → ℕ
-    inside true = 1
-    inside false = 0
+holders place (child ∷ more) =
+    oneIf (leb (child .start) place && ltb place (child .start + child .size)) + holders place more
 
 -- An object's children: every byte of the area, from 0 up to a place, is in exactly one child.
 unfoldable pub everyByteOnce : ℕ → List Child → Bool
@@ -120,11 +117,8 @@ primitiveMeaning zero s = some null
 primitiveMeaning (suc zero) s = some (scalar (boolean true))
 primitiveMeaning (suc (suc zero)) s = some (scalar (boolean false))
 primitiveMeaning (suc (suc (suc more))) s =
-    let type = suc (suc (suc more)) in given (scaleGood (leb 8 type && leb type 10)) (some (scalar (payload type s)))
-  where
-    scaleGood : Bool → Bool
-    scaleGood true = leb (at s 0) 38
-    scaleGood false = true
+    let type = suc (suc (suc more)) in
+    given (not (leb 8 type && leb type 10) || leb (at s 0) 38) (some (scalar (payload type s)))
 
 -- Binary is type 15 and string type 16, without their length.
 unfoldable pub prefixedMeaning : Bool → ℕ → List ℕ → Doc
@@ -159,12 +153,12 @@ meaningBy inner names (ArrayHead count offset) s =
 meaningBy inner names Nothing s = none
 
 -- A value fills its bytes: it ends where they do.
+unfoldable pub endsAt : Option ℕ → ℕ → Bool
+endsAt none end = false
+endsAt (some size) end = eqb size end
+
 unfoldable pub whole : List ℕ → Bool
-whole s = ends (extent s)
-  where
-    ends : Option ℕ → Bool
-    ends none = false
-    ends (some size) = eqb size (length s)
+whole s = endsAt (extent s) (length s)
 
 -- What bytes mean that are one value, within so many levels; nothing if they break a rule.
 unfoldable pub meaningOf : (levels : ℕ) → Dictionary → List ℕ → Option Doc

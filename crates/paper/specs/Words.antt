@@ -20,6 +20,11 @@ unfoldable pub given {ℓ} : {A : Type ℓ} → Bool → Option A → Option A
 given true x = x
 given false x = none
 
+-- 1 if a test passes, else 0.
+unfoldable pub oneIf : Bool → ℕ
+oneIf true = 1
+oneIf false = 0
+
 -- It is there.
 unfoldable pub isThere {ℓ} : {A : Type ℓ} → Option A → Bool
 isThere none = false
