@@ -47,13 +47,17 @@ pub record Child : Type 0 where
   pub start : ℕ
   pub size : ℕ
 
--- The children at given starts, if each has a length and none passes the area.
+-- How long the child at a start is, if it has a length and does not pass the area.
+unfoldable pub childExtent : List ℕ → (start : ℕ) → Option ℕ
+childExtent area start = andThen (extent (drop start area)) λ size. given (leb (start + size) (length area)) (some size)
+
+-- The children at given starts, if each has such a length.
 unfoldable pub childrenAt : List ℕ → List ℕ → Option (List Child)
 childrenAt area [] = some []
 childrenAt area (start ∷ more) =
-    andThen (extent (drop start area)) λ size.
-    given (leb (start + size) (length area))
-    (andThen (childrenAt area more) λ children. some (record { start = start; size = size } ∷ children))
+    andThen (childExtent area start) λ size.
+    andThen (childrenAt area more) λ children.
+    some (record { start = start; size = size } ∷ children)
 
 -- An array's children: each ends where the next starts, from 0 to the end of the area.
 unfoldable pub endToEnd : (from end : ℕ) → List Child → Bool

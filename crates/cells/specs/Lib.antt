@@ -1,0 +1,2 @@
+-- The sizes that cells of numbers have.
+pub mod Sized

@@ -1,0 +1,2 @@
+-- What is read of metadata, by the definitions of 01.
+pub mod Judging
