@@ -1,0 +1,71 @@
+-- What `covered` answers: children that lie scattered cover the area once exactly when their sizes come to its length and
+-- the walk over their marks ends well.
+use mathlib.Core.Bool.{Bool, true, false, cond}
+use mathlib.Core.List.{List, [], _∷_, _++_, map}
+use mathlib.Core.Option.{Option, none, some}
+use mathlib.Core.Path.{_≡_, refl, ap, _∙_}
+use Prim.Native.Nat.{ℕ, _+_, _≤_}
+use native.Mathlib.Omega.{arith}
+use borrow.Author.Tests.{ltb-true, lt-ltb}
+use lib.Dec.{ltb}
+use lib.ListN.{length, drop, replicate}
+use Rattle.paper.specs.Values.{Child, childrenAt, endToEnd, everyByteOnce}
+use Rattle.paper.specs.Words.{allBelow}
+use Rattle.values.specs.Children.{sizes, lengthsFrom, lengthsOf, onceIn}
+use Rattle.values.specs.Marks.{markAll, Marked}
+use Rattle.values.specs.declared.children.Lengths.the-variants.{EndToEnd, Scattered}
+use Rattle.paper.proofs.WordLaws.{and-both, some-there}
+use Rattle.values.proofs.ChildLaws.{AllSized, SizedIn, children-sized, children-below}
+use Rattle.values.proofs.CoverLaws.{total, total-sizes, sum-of-once}
+use Rattle.values.proofs.WalkLaws.{all-within}
+
+-- Scattered children are there, and their sizes come to the sum.
+pub scattered-children : (end sum : ℕ) (K : Option (List Child)) → lengthsOf end K ≡ Scattered sum
+    → (children : List Child) × (K ≡ some children) × (sizes children ≡ sum)
+unfolding lengthsOf lengthsFrom
+scattered-children end sum none e = absurd (let z : _≡_ {A = ℕ} 0 1 = cc in omega arith)
+scattered-children end sum (some children) e = (children, refl, go (endToEnd 0 end children) e)
+  where
+    go : (b : Bool) → cond b EndToEnd (Scattered (0 + sizes children)) ≡ Scattered sum → sizes children ≡ sum
+    go true f = absurd (let z : _≡_ {A = ℕ} 0 1 = cc in omega arith)
+    go false f = let same : 0 + sizes children ≡ sum = cc in omega arith
+
+below-more : (a b : ℕ) (ns : List ℕ) → a ≤ b → allBelow a ns ≡ true → allBelow b ns ≡ true
+unfolding allBelow
+below-more a b [] h e = refl
+below-more a b (n ∷ ns) h e =
+    let both = and-both (ltb n a) (allBelow a ns) e in
+    let less = ltb-true n a (both .0) in
+    rw (lt-ltb n b (omega arith)) (below-more a b ns h (both .1))
+
+module _ (area starts : List ℕ) (sum : ℕ) (lie : lengthsOf (length area) (childrenAt area starts) ≡ Scattered sum) where
+  are : (children : List Child) × (childrenAt area starts ≡ some children) × (sizes children ≡ sum)
+  are = scattered-children (length area) sum (childrenAt area starts) lie
+
+  pub covered-below : (size : ℕ) → length area ≤ size → allBelow size starts ≡ true
+  covered-below size h = below-more (length area) size starts h (children-below area starts (some-there (childrenAt area starts) (are .1)))
+
+  pub covered-sum : (sum ≡ length area → ⊥) → false ≡ onceIn (length area) (childrenAt area starts)
+  unfolding onceIn SizedIn
+  covered-sum other = rw (are .1) (go (everyByteOnce (length area) (are .0)) refl)
+    where
+      sized : AllSized area (are .0) × (map (λ (c : Child). c .start) (are .0) ≡ starts)
+      sized = rw (are .1) at (children-sized area starts)
+
+      go : (b : Bool) → everyByteOnce (length area) (are .0) ≡ b → false ≡ b
+      go false e = refl
+      go true e =
+          let counted : total (length area) (are .0) ≡ length area = sum-of-once (length area) (are .0) e in
+          let bytes : total (length area) (are .0) ≡ sizes (are .0) = total-sizes (length area) (are .0) (all-within area (are .0) (sized .0)) in
+          let own : sizes (are .0) ≡ sum = are .2 in
+          absurd (other (omega arith))
+
+  pub covered-walked : (r : Bool) (marks cleared marks₀ : List ℕ)
+      → ((runs : List ℕ) (children : List Child) → Marked area runs children marks → r ≡ everyByteOnce (length area) children)
+      → marks ≡ markAll cleared starts → cleared ≡ replicate (length area) 0 ++ drop (length area) marks₀ → sum ≡ length area
+      → r ≡ onceIn (length area) (childrenAt area starts)
+  unfolding onceIn
+  covered-walked r marks cleared marks₀ answers map-is clean e =
+      rw (are .1)
+      (answers starts (are .0)
+      (record { are = are .1; sum = are .2 ∙ e; rest = drop (length area) marks₀; map = map-is ∙ ap (λ (l : List ℕ). markAll l starts) clean }))

@@ -1,0 +1,4 @@
+-- What the walker's inner functions answer, in the words of 01's values.
+pub mod Children
+pub mod Marks
+pub mod Layouts
