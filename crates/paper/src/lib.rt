@@ -3,6 +3,15 @@
 ghost use mathlib.Core.Path.{_≡_};
 ghost use Rattle.paper.specs.Refusals.{refusalNumber};
 
+// What a register may hold: the numbers of `specs/Limits.antt`, for the code.
+pub const MOST_METADATA: usize = 16384;
+
+pub const MOST_VALUE: usize = 16384;
+
+pub const MOST_PATH: usize = 1024;
+
+pub const MOST_LEVELS: usize = 16;
+
 // Why the register says no, in the order of 01's numbers 1 to 8. (9 is an answer that carries the lengths needed.)
 pub enum Refusal {
     TooLong,

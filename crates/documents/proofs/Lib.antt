@@ -1,0 +1,3 @@
+-- Laws of a lent document judged, for the operations above.
+
+pub mod DocumentLaws

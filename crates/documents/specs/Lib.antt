@@ -1,0 +1,2 @@
+-- What the judging of a lent document answers.
+pub mod Judged
