@@ -11,7 +11,6 @@ use Rattle.paper.specs.declared.DocumentAnswer.{DocumentAnswer}
 use Rattle.paper.specs.declared.DocumentAnswer.the-variants as document
 use Rattle.paper.specs.declared.RowAnswer.{RowAnswer}
 use Rattle.paper.specs.declared.RowAnswer.the-variants as row
-use Rattle.paper.specs.declared.Cell.{Cell}
 use Rattle.paper.specs.declared.CellAnswer.{CellAnswer}
 use Rattle.paper.specs.declared.CellAnswer.the-variants as cell
 use Rattle.paper.specs.declared.BoxAnswer.{BoxAnswer}

@@ -1,4 +1,4 @@
--- `first_of`: by the kind.
+-- `first_of`: by the kind; a float or double is no NaN, so that its bits can be had.
 use mathlib.Core.Path.{ap, _∙_}
 use borrow.Author.Needs.{needs}
 use lib.IntN.{ℤ}
