@@ -128,7 +128,7 @@ fn signed(n: u64, width: usize) -> i64
 }
 
 // The number that the eight bytes of a signed one hold.
-fn unsigned(z: i64) -> u64
+pub fn unsigned(z: i64) -> u64
     ensures { λ r. ⌜ r ≡ number (signedBytes 8 z) ⌝ }
 {
     if 0 <= z {
