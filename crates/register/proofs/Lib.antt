@@ -3,3 +3,4 @@
 pub mod BoundaryLaws
 pub mod BitsLaws
 pub mod CellLaws
+pub mod DocumentAnswers

@@ -6,12 +6,14 @@ ghost use mathlib.Core.Bool.{true, not};
 ghost use Prim.Native.Nat.{_<_, _^_};
 ghost use lib.Dec.{T};
 ghost use lib.Ieee.{isNan, toBits, binary32};
-ghost use Rattle.paper.specs.Operations.{cellAnswer};
+ghost use Rattle.paper.specs.Operations.{cellAnswer, checkAnswer};
 ghost use Rattle.paper.specs.Words.{oneIf};
-ghost use Rattle.register.specs.Boundary.{word, refusedWord, cellWord};
+ghost use Rattle.register.specs.Boundary.{word, refusedWord, checkedWord, cellWord};
 ghost use Rattle.register.specs.CellParts.{cellKind, firstOf, secondOf, firstWord, secondWord, hasBits, answerHasBits};
+use documents::Document;
 use paper::Cell;
 use paper::CellAnswer;
+use paper::Checked;
 use paper::Refusal;
 
 // ---- words
@@ -30,6 +32,35 @@ fn refused_word(refusal: Refusal) -> u64
     ensures { λ r. ⌜ r ≡ refusedWord refusal ⌝ }
 {
     word(paper::number(refusal), false, 0, 0)
+}
+
+// ---- check
+
+// Checks a Variant: its metadata and its value.
+pub fn check(metadata: &[u8], value: &[u8]) -> Checked
+    ensures { λ r. ⌜ r ≡ checkAnswer (now (metadata .entry)) (now (value .entry)) ⌝ }
+{
+    let judged = documents::judge(metadata, value);
+    match judged {
+        Document::Lawful(_) => Checked::Good,
+        Document::Refused(refusal) => Checked::Refused(refusal),
+    }
+}
+
+fn checked_word(answer: Checked) -> u64
+    ensures { λ r. ⌜ r ≡ checkedWord answer ⌝ }
+{
+    match answer {
+        Checked::Good => word(0, true, 0, 0),
+        Checked::Refused(refusal) => refused_word(refusal),
+    }
+}
+
+#[no_mangle]
+pub extern "C" fn tanvelis_check(metadata: &[u8], value: &[u8]) -> u64
+    ensures { λ r. ⌜ r ≡ checkedWord (checkAnswer (now (metadata .entry)) (now (value .entry))) ⌝ }
+{
+    checked_word(check(metadata, value))
 }
 
 // ---- one typed cell
