@@ -1,6 +1,8 @@
 // What the library answers about the sample lots of document 01, a line each, for an inspector to read.
 use libc::STDOUT_FILENO;
-use order::Order;
+use paper::Cell;
+use paper::CellAnswer;
+use paper::Checked;
 
 fn say(text: &[u8]) {
     io::write_all(STDOUT_FILENO, text);
@@ -10,36 +12,175 @@ fn say_number(n: u64) {
     io::print_decimal(STDOUT_FILENO, n);
 }
 
-fn say_order(o: Order) {
-    match o {
-        Order::Less => say(b"the first comes first\n"),
-        Order::Equal => say(b"they are the same\n"),
-        Order::Greater => say(b"the second comes first\n"),
+// One lot checked: what it is, and good or the number of the refusal.
+fn check(lot: &[u8], metadata: &[u8], value: &[u8]) {
+    say(b"  ");
+    say(lot);
+    let answer = register::check(metadata, value);
+    match answer {
+        Checked::Good => say(b": good\n"),
+        Checked::Refused(refusal) => {
+            say(b": refused, ");
+            say_number(paper::number(refusal) as u64);
+            say(b"\n");
+        }
     }
 }
 
-fn numbers_in_bytes() {
-    say(b"numbers in bytes\n");
-    say(b"  a framed length, bytes 0B 00: ");
-    say_number(numbers::read(b"\x0B\x00", 0, 2) as u64);
-    say(b"\n  an int64 cell, bytes 22 00 00 00 00 00 00 00: ");
-    say_number(numbers::read8(b"\x22\x00\x00\x00\x00\x00\x00\x00", 0));
-    say(b"\n  the bytes of an offset 256: ");
-    say_number(numbers::width_of(256) as u64);
+// One typed cell.
+fn cell(lot: &[u8], code: u8, bytes: &[u8]) {
+    say(b"  ");
+    say(lot);
+    let answer = register::cell(code, bytes);
+    match answer {
+        CellAnswer::Read(read) => say_cell(read),
+        CellAnswer::Refused(refusal) => {
+            say(b": refused, ");
+            say_number(paper::number(refusal) as u64);
+        }
+    }
     say(b"\n");
 }
 
-fn names() {
-    say(b"names by unsigned bytes\n");
-    say(b"  b and a: ");
-    say_order(order::compare(b"b", b"a"));
-    say(b"  lot and lot 34: ");
-    say_order(order::compare(b"lot", b"lot 34"));
-    say(b"  a and a: ");
-    say_order(order::compare(b"a", b"a"));
+// A signed number, by its two's complement.
+fn say_signed(z: i64) {
+    say(b": ");
+    let n = numbers::unsigned(z);
+    if n < 9223372036854775808 {
+        say_number(n);
+    } else {
+        say(b"-");
+        say_number(18446744073709551615 - n + 1);
+    }
+}
+
+fn say_cell(read: Cell) {
+    match read {
+        Cell::Boolean(yes) => { if yes { say(b": yes") } else { say(b": no") } }
+        Cell::Integer(z) => say_signed(z),
+        Cell::Float(_) => say(b": a float"),
+        Cell::FloatNan(_) => say(b": a float, not a number"),
+        Cell::Double(_) => say(b": a double"),
+        Cell::DoubleNan(_) => say(b": a double, not a number"),
+        Cell::Length(length) => {
+            say(b": bytes, ");
+            say_number(length as u64);
+        }
+        Cell::Uuid { first, second } => {
+            say(b": ");
+            say_number(first);
+            say(b" and ");
+            say_number(second);
+        }
+    }
+}
+
+fn metadata_1() {
+    say(b"metadata\n");
+    check(b"metadata 01 00 00", b"\x01\x00\x00", b"\x00");
+    check(
+        b"metadata 01 00: one offset is lacking",
+        b"\x01\x00",
+        b"\x00",
+    );
+    check(b"metadata 21 00 00: bit 5 is set", b"\x21\x00\x00", b"\x00");
+}
+
+fn metadata_2() {
+    check(
+        b"names b, a unsorted",
+        b"\x01\x02\x00\x01\x02\x62\x61",
+        b"\x00",
+    );
+    check(
+        b"names b, a under the sorted flag",
+        b"\x11\x02\x00\x01\x02\x62\x61",
+        b"\x00",
+    );
+    check(b"names a, a", b"\x01\x02\x00\x01\x02\x61\x61", b"\x00");
+}
+
+fn values_1() {
+    say(b"values\n");
+    check(b"no value", b"\x01\x00\x00", b"");
+    check(b"null", b"\x01\x00\x00", b"\x00");
+    check(b"\"n/a\" short", b"\x01\x00\x00", b"\x0d\x6e\x2f\x61");
+}
+
+fn values_2() {
+    check(
+        b"\"n/a\" long",
+        b"\x01\x00\x00",
+        b"\x40\x03\x00\x00\x00\x6e\x2f\x61",
+    );
+    check(b"13 6E 2F 61", b"\x01\x00\x00", b"\x13\x6e\x2f\x61");
+    check(b"an empty object", b"\x01\x00\x00", b"\x02\x00\x00");
+}
+
+fn values_3() {
+    check(
+        b"02 00: one offset is lacking",
+        b"\x01\x00\x00",
+        b"\x02\x00",
+    );
+    check(b"an empty array", b"\x01\x00\x00", b"\x03\x00\x00");
+    check(b"type 21", b"\x01\x00\x00", b"\x54");
+}
+
+fn objects() {
+    say(b"objects, names b and a\n");
+    check(
+        b"{a: null, b: true}, values in order",
+        b"\x01\x02\x00\x01\x02\x62\x61",
+        b"\x02\x02\x01\x00\x00\x01\x02\x00\x04",
+    );
+    check(
+        b"{a: null, b: true}, values the other way round",
+        b"\x01\x02\x00\x01\x02\x62\x61",
+        b"\x02\x02\x01\x00\x01\x00\x02\x04\x00",
+    );
+    check(
+        b"ids in the order of the dictionary",
+        b"\x01\x02\x00\x01\x02\x62\x61",
+        b"\x02\x02\x00\x01\x00\x01\x02\x00\x04",
+    );
+}
+
+fn cells_1() {
+    say(b"cells\n");
+    cell(b"boolean 01", 1, b"\x01");
+    cell(b"boolean 02", 1, b"\x02");
+    cell(
+        b"int64 22 00 00 00 00 00 00 00",
+        6,
+        b"\x22\x00\x00\x00\x00\x00\x00\x00",
+    );
+}
+
+fn cells_2() {
+    cell(b"int8 DE", 3, b"\xde");
+    cell(b"double, infinity", 7, b"\x00\x00\x00\x00\x00\x00\xf0\x7f");
+    cell(b"double, a NaN", 7, b"\x01\x00\x00\x00\x00\x00\xf8\x7f");
+}
+
+fn cells_3() {
+    cell(b"string n/a", 16, b"\x6e\x2f\x61");
+    cell(b"type 8 is no column", 8, b"\x00\x00\x00\x00\x00");
+    cell(
+        b"uuid",
+        20,
+        b"\x01\x00\x00\x00\x00\x00\x00\x00\x02\x00\x00\x00\x00\x00\x00\x00",
+    );
 }
 
 fn main() {
-    numbers_in_bytes();
-    names();
+    metadata_1();
+    metadata_2();
+    values_1();
+    values_2();
+    values_3();
+    objects();
+    cells_1();
+    cells_2();
+    cells_3();
 }
