@@ -1,10 +1,11 @@
 -- A document judged, refusal by refusal; and what a lawful one has.
-use mathlib.Core.Bool.{Bool, true, false, cond}
+use mathlib.Core.Bool.{Bool, true, false, cond, _&&_}
 use mathlib.Core.List.{List}
-use mathlib.Core.Option.{Option, none, some}
-use mathlib.Core.Path.{_≡_, refl, sym, ap, _∙_}
+use mathlib.Core.Option.{Option, none, some, Option·some-injective as some-injective}
+use mathlib.Core.Path.{_≡_, refl, sym, ap, _∙_, subst}
 use Prim.Native.Nat.{ℕ, _≤_, _<_}
-use borrow.Author.Tests.{le-leb, lt-leb, ne-eqb, eq-eqb}
+use native.Mathlib.Omega.{arith}
+use borrow.Author.Tests.{le-leb, lt-leb, ne-eqb, eq-eqb, leb-true}
 use lib.ListN.{length}
 use Rattle.dictionary.specs.Judging.{judgedOf, Opened}
 use Rattle.dictionary.specs.declared.Judged.the-variants.{Good, Broken}
@@ -15,15 +16,19 @@ use Rattle.documents.specs.declared.Document.the-variants.{Lawful, Refus
 use Rattle.heads.specs.Extents.{extentAnswer}
 use Rattle.heads.specs.declared.Extent.the-variants.{Size, Unknown}
 use Rattle.heads.specs.declared.Extent.{Extent}
+use Rattle.documents.specs.declared.Document.{Document}
+use lib.Dec.{leb}
+use Rattle.paper.specs.declared.Refusal.{Refusal}
+use Rattle.paper.specs.Meaning.{Doc}
 use Rattle.paper.specs.Limits.{mostMetadata, mostValue, mostLevels}
 use Rattle.paper.specs.Metadata.{Dictionary, dictionaryOf, namesIn}
 use Rattle.paper.specs.Operations.{judged, documentFits, checkOutcome}
-use Rattle.paper.specs.Refusals.{reached, unless, orElse}
+use Rattle.paper.specs.Refusals.{reached, unless, orElse, Outcome, refused}
 use Rattle.paper.specs.Values.{extent, whole, endsAt, meaningOf, meaningBy}
 use Rattle.paper.specs.Words.{isThere}
 use Rattle.paper.specs.declared.Refusal.the-variants.{TooLong, BadMetadata, BadValue}
 use Rattle.dictionary.proofs.DictionaryLaws.{opened, opened-names, broken}
-use Rattle.paper.proofs.WordLaws.{never, there-some, given-failed}
+use Rattle.paper.proofs.WordLaws.{never, there-some, given-failed, some-there}
 use Rattle.values.proofs.LengthLaws.{unknown-none, size-some}
 
 not-there : {A : Type 0} (x : Option A) → isThere x ≡ false → x ≡ none
@@ -100,3 +105,52 @@ module _ (m v : List ℕ) where
           pub value-bad : b ≡ false → Refused BadValue ≡ documentOf m v
           unfolding documentOf documentBy orElse
           value-bad f = rw (with-names, not-there (meaningOf mostLevels (namesIn m) v) (sym lies ∙ f))
+
+-- ---- what a lawful document has
+
+pub record LawfulDocument (m v : List ℕ) (names : Names) : Type 0 where
+  pub opened-is : Opened m names
+  pub doc-is : Doc
+  pub means : meaningOf mostLevels (namesIn m) v ≡ some doc-is
+  pub short : length v ≤ 16384
+  pub outcome : checkOutcome m v ≡ reached doc-is
+
+-- What is read of metadata that keeps its rules opens it.
+read-opens : (m : List ℕ) → isThere (dictionaryOf m) ≡ true → Opened m (namesRead m)
+unfolding namesRead
+read-opens m there = record { there = there; width = refl; count = refl; sorted = refl }
+
+pub lawful-document : (m v : List ℕ) (names : Names) → documentOf m v ≡ Lawful names → LawfulDocument m v names
+unfolding documentOf documentBy checkOutcome documentFits mostMetadata mostValue unless judged orElse
+lawful-document m v names e = fitted (leb (length m) 16384) (leb (length v) 16384) refl refl e
+  where
+    refuse : (r : Refusal) → _≡_ {A = Document} (Refused r) (Lawful names) → LawfulDocument m v names
+    refuse r f = absurd (let z : _≡_ {A = ℕ} 0 1 = cc in omega arith)
+
+    meant : (ns : Dictionary) → dictionaryOf m ≡ some ns → leb (length m) 16384 ≡ true → leb (length v) 16384 ≡ true
+        → (x : Option Doc) → meaningOf mostLevels ns v ≡ x → documentBy (namesRead m) (orElse BadValue x λ d. reached d) ≡ Lawful names
+        → LawfulDocument m v names
+    meant ns is a b none f g = refuse BadValue g
+    meant ns is a b (some d) f g =
+        let same : namesRead m ≡ names = cc in
+        let opens : Opened m (namesRead m) = read-opens m (some-there (dictionaryOf m) is) in
+        let those : ns ≡ namesIn m = some-injective ns (namesIn m) (sym is ∙ opened-names opens) in
+        record {
+          opened-is = subst (Opened m) same opens;
+          doc-is = d;
+          means = ap (λ (x : Dictionary). meaningOf mostLevels x v) (sym those) ∙ f;
+          short = leb-true (length v) 16384 b;
+          outcome = rw (a, b, is, f);
+        }
+
+    found : (x : Option Dictionary) → dictionaryOf m ≡ x → leb (length m) 16384 ≡ true → leb (length v) 16384 ≡ true
+        → documentBy (namesRead m) (orElse BadMetadata x λ ns. orElse BadValue (meaningOf mostLevels ns v) λ d. reached d) ≡ Lawful names
+        → LawfulDocument m v names
+    found none is a b f = refuse BadMetadata f
+    found (some ns) is a b f = meant ns is a b (meaningOf mostLevels ns v) refl f
+
+    fitted : (p q : Bool) → leb (length m) 16384 ≡ p → leb (length v) 16384 ≡ q
+        → documentBy (namesRead m) (unless TooLong (p && q) (judged m v λ ns d. reached d)) ≡ Lawful names → LawfulDocument m v names
+    fitted true true a b f = found (dictionaryOf m) refl a b f
+    fitted true false a b f = refuse TooLong f
+    fitted false q a b f = refuse TooLong f

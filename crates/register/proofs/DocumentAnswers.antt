@@ -1,30 +1,75 @@
 -- The answers of the operations that judge a document first, by what the judging says.
+use mathlib.Core.Bool.{Bool, true, false, _&&_}
 use mathlib.Core.List.{List}
+use mathlib.Core.Option.{Option, none, some}
 use mathlib.Core.Path.{_≡_, refl, sym, ap, _∙_}
-use Prim.Native.Nat.{ℕ}
+use Prim.Native.Nat.{ℕ, _≤_, _<_}
 use native.Mathlib.Omega.{arith}
+use borrow.Author.Tests.{le-leb, lt-leb}
+use lib.Dec.{leb}
+use lib.ListN.{length}
+use Rattle.boxes.specs.Sides.{Lawful as BoxLawful}
+use Rattle.dictionary.specs.Judging.{Opened}
 use Rattle.dictionary.specs.declared.Names.{Names}
 use Rattle.documents.specs.Judged.{namesRead, documentBy, documentOf}
 use Rattle.documents.specs.declared.Document.the-variants.{Lawful, Refused}
 use Rattle.documents.specs.declared.Document.{Document}
+use Rattle.paper.specs.Boxes.{boxOf}
+use Rattle.paper.specs.Limits.{mostLevels, mostPath}
 use Rattle.paper.specs.Meaning.{Doc}
-use Rattle.paper.specs.Operations.{checkOutcome, checkedBy, checkAnswer}
-use Rattle.paper.specs.Refusals.{Outcome, refused, reached}
+use Rattle.paper.specs.Metadata.{Dictionary, dictionaryOf, namesIn}
+use Rattle.paper.specs.Operations.{judged, documentFits, checkOutcome, checkedBy, checkAnswer, findOutcome, foundBy, findAnswer, boxOutcome, boxReadBy, boxAnswer}
+use Rattle.paper.specs.Paths.{Step, pathOf, findFrom}
+use Rattle.paper.specs.Refusals.{Outcome, refused, reached, unless, orElse}
+use Rattle.paper.specs.Values.{Child, meaningOf}
+use Rattle.paper.specs.Words.{isThere}
+use Rattle.paper.specs.declared.BoxAnswer.{BoxAnswer}
 use Rattle.paper.specs.declared.Checked.{Checked}
+use Rattle.paper.specs.declared.Found.{Found}
+use Rattle.paper.specs.declared.Refusal.the-variants.{TooLong, BadMetadata, BadValue, BadPath}
 use Rattle.paper.specs.declared.Refusal.{Refusal}
+use Rattle.dictionary.proofs.DictionaryLaws.{opened-names}
+use Rattle.documents.proofs.DocumentLaws.{LawfulDocument, lawful-document}
+use Rattle.paper.proofs.WordLaws.{never, some-there}
 use Rattle.register.proofs.BoundaryLaws.{one-answer}
 
-module _ (m v : List ℕ) (r : Document) (told : r ≡ documentOf m v) where
-  -- a document judged lawful has a meaning
-  pub lawful-reached : (names : Names) → r ≡ Lawful names → (d : Doc) × (checkOutcome m v ≡ reached d)
-  unfolding documentOf documentBy
-  lawful-reached names e = go (checkOutcome m v) (sym told ∙ e)
-    where
-      go : (x : Outcome Doc) → documentBy (namesRead m) x ≡ Lawful names → (d : Doc) × (x ≡ reached d)
-      go (refused refusal) f = absurd (let z : _≡_ {A = ℕ} 0 1 = cc in omega arith)
-      go (reached d) f = (d, refl)
+-- ---- what comes next is come to from a lawful document; another is refused as check refuses it
 
-  pub refused-same : (refusal : Refusal) → r ≡ Refused refusal → checkOutcome m v ≡ refused refusal
+fits : (b : Bool) (x : Outcome Doc) {d : Doc} → unless TooLong b x ≡ reached d → b ≡ true
+unfolding unless
+fits true x e = refl
+fits false x e = absurd (let z : _≡_ {A = ℕ} 0 1 = cc in omega arith)
+
+same-refusal : {A : Type 0} {other refusal : Refusal} → _≡_ {A = Outcome Doc} (refused other) (refused refusal)
+    → _≡_ {A = Outcome A} (refused other) (refused refusal)
+same-refusal {other = other} {refusal} e = let is : other ≡ refusal = cc in ap refused is
+
+module _ {A : Type 0} (next : Dictionary → Doc → Outcome A) (m v : List ℕ) where
+  judged-lawful : {names : Names} (l : LawfulDocument m v names)
+      → unless TooLong (documentFits m v) (judged m v next) ≡ next (namesIn m) (l .doc-is)
+  unfolding unless judged orElse checkOutcome
+  judged-lawful l = rw (fits (documentFits m v) (judged m v λ names d. reached d) (l .outcome), opened-names (l .opened-is), l .means)
+
+  judged-refused : (refusal : Refusal) → checkOutcome m v ≡ refused refusal → unless TooLong (documentFits m v) (judged m v next) ≡ refused refusal
+  unfolding checkOutcome unless judged orElse
+  judged-refused refusal = go (documentFits m v) (dictionaryOf m)
+    where
+      inner : (names : Dictionary) (x : Option Doc) → orElse BadValue x (λ d. reached d) ≡ refused refusal → orElse BadValue x (next names) ≡ refused refusal
+      inner names none e = same-refusal e
+      inner names (some other) e = absurd (let z : _≡_ {A = ℕ} 0 1 = cc in omega arith)
+
+      go : (b : Bool) (x : Option Dictionary)
+          → unless TooLong b (orElse BadMetadata x λ names. orElse BadValue (meaningOf mostLevels names v) λ d. reached d) ≡ refused refusal
+          → unless TooLong b (orElse BadMetadata x λ names. orElse BadValue (meaningOf mostLevels names v) (next names)) ≡ refused refusal
+      go false x e = same-refusal e
+      go true none e = same-refusal e
+      go true (some names) e = inner names (meaningOf mostLevels names v) e
+
+module _ (m v : List ℕ) (r : Document) (told : r ≡ documentOf m v) where
+  lawful : (names : Names) → r ≡ Lawful names → LawfulDocument m v names
+  lawful names e = lawful-document m v names (sym told ∙ e)
+
+  refused-same : (refusal : Refusal) → r ≡ Refused refusal → checkOutcome m v ≡ refused refusal
   unfolding documentOf documentBy
   refused-same refusal e = go (checkOutcome m v) (sym told ∙ e)
     where
@@ -36,11 +81,90 @@ module _ (m v : List ℕ) (r : Document) (told : r ≡ documentOf m v) where
 
   pub check-good : (names : Names) → r ≡ Lawful names → Checked.Good ≡ checkAnswer m v
   unfolding checkAnswer checkedBy
-  check-good names e = rw (lawful-reached names e .1)
+  check-good names e = rw (lawful names e .outcome)
 
   pub check-refused : (refusal : Refusal) → r ≡ Refused refusal → Checked.Refused refusal ≡ checkAnswer m v
   unfolding checkAnswer checkedBy
   check-refused refusal e = rw (refused-same refusal e)
+
+  -- ---- find
+
+  pub find-asks : (names : Names) → r ≡ Lawful names → Opened m names × (isThere (meaningOf mostLevels (namesIn m) v) ≡ true) × (length v ≤ 65536)
+  find-asks names e =
+      let l = lawful names e in
+      let short = l .short in
+      (l .opened-is, some-there (meaningOf mostLevels (namesIn m) v) (l .means), omega arith)
+
+  module _ (p : List ℕ) (short : length p ≤ 1024) where
+    both-fit : {A : Type 0} (x : Outcome A) → unless TooLong (documentFits m v && leb (length p) mostPath) x ≡ unless TooLong (documentFits m v) x
+    unfolding mostPath
+    both-fit x = rw (le-leb (length p) 1024 short) (go (documentFits m v))
+      where
+        go : (b : Bool) → unless TooLong (b && true) x ≡ unless TooLong b x
+        go true = refl
+        go false = refl
+
+    pub find-lawful : (names : Names) → r ≡ Lawful names → (f : Found)
+        → f ≡ foundBy (orElse BadPath (pathOf p) λ steps. reached (findFrom (namesIn m) steps 0 v)) → f ≡ findAnswer m v p
+    unfolding findAnswer findOutcome
+    find-lawful names e f is = is ∙ sym (ap foundBy (both-fit _ ∙ judged-lawful _ m v (lawful names e)))
+
+    pub find-refused : (refusal : Refusal) → r ≡ Refused refusal → Found.Refused refusal ≡ findAnswer m v p
+    unfolding findAnswer findOutcome foundBy
+    find-refused refusal e = sym (ap foundBy (both-fit _ ∙ judged-refused _ m v refusal (refused-same refusal e)))
+
+  -- ---- box
+
+  pub box-asks : (names : Names) → r ≡ Lawful names → BoxLawful m names v
+  box-asks names e = let asks = find-asks names e in record { opened = asks .0; means = asks .1; small = asks .2 }
+
+  -- b is what the box reader answered of a lawful document
+  pub box-read : (names : Names) → r ≡ Lawful names → (b : BoxAnswer)
+      → ((d : Doc) → meaningOf mostLevels (namesIn m) v ≡ some d → b ≡ boxReadBy (reached (boxOf d))) → b ≡ boxAnswer m v
+  unfolding boxAnswer boxOutcome
+  box-read names e b answers =
+      let l = lawful names e in answers (l .doc-is) (l .means) ∙ sym (ap boxReadBy (judged-lawful _ m v l))
+
+  pub box-refused : (refusal : Refusal) → r ≡ Refused refusal → BoxAnswer.Refused refusal ≡ boxAnswer m v
+  unfolding boxAnswer boxOutcome boxReadBy
+  box-refused refusal e = sym (ap boxReadBy (judged-refused _ m v refusal (refused-same refusal e)))
+
+-- ---- the parts of find
+
+-- A path longer than a path may be.
+pub path-long : (m v p : List ℕ) → 1024 < length p → Found.Refused TooLong ≡ findAnswer m v p
+unfolding findAnswer findOutcome foundBy unless mostPath
+path-long m v p long = rw (lt-leb (length p) 1024 long) (go (documentFits m v) _)
+  where
+    go : (b : Bool) (x : Outcome (Option Child)) → Found.Refused TooLong ≡ foundBy (unless TooLong (b && false) x)
+    go true x = refl
+    go false x = refl
+
+-- good is whether the path keeps its rules.
+module _ (m v p : List ℕ) (good : Bool) (told : good ≡ isThere (pathOf p)) where
+  pub path-bad : good ≡ false → Found.Refused BadPath ≡ foundBy (orElse BadPath (pathOf p) λ steps. reached (findFrom (namesIn m) steps 0 v))
+  unfolding isThere orElse foundBy
+  path-bad e = go (pathOf p) (sym told ∙ e)
+    where
+      go : (x : Option (List Step)) → isThere x ≡ false → Found.Refused BadPath ≡ foundBy (orElse BadPath x λ steps. reached (findFrom (namesIn m) steps 0 v))
+      go none e = refl
+      go (some steps) e = never e
+
+  pub path-asks : {names : Names} → Opened m names × (isThere (meaningOf mostLevels (namesIn m) v) ≡ true) × (length v ≤ 65536) → good ≡ true
+      → Opened m names × (isThere (meaningOf mostLevels (namesIn m) v) ≡ true) × (length v ≤ 65536) × (isThere (pathOf p) ≡ true)
+  path-asks asks e = (asks .0, asks .1, asks .2, sym told ∙ e)
+
+  -- f is what find answered along the path.
+  pub path-kept : good ≡ true → (f : Found)
+      → ((steps : List Step) → pathOf p ≡ some steps → f ≡ foundBy (reached (findFrom (namesIn m) steps 0 v)))
+      → f ≡ foundBy (orElse BadPath (pathOf p) λ steps. reached (findFrom (namesIn m) steps 0 v))
+  unfolding isThere orElse
+  path-kept e f = go (pathOf p) (sym told ∙ e)
+    where
+      go : (x : Option (List Step)) → isThere x ≡ true → ((steps : List Step) → x ≡ some steps → f ≡ foundBy (reached (findFrom (namesIn m) steps 0 v)))
+          → f ≡ foundBy (orElse BadPath x λ steps. reached (findFrom (namesIn m) steps 0 v))
+      go none e is = never (sym e)
+      go (some steps) e is = is steps refl
 
 -- No second answer satisfies the contract of check.
 pub one-check : (m v : List ℕ) (r other : Checked) → r ≡ checkAnswer m v → other ≡ checkAnswer m v → r ≡ other

@@ -2,5 +2,7 @@
 
 pub mod BoundaryLaws
 pub mod BitsLaws
+pub mod BoxLaws
 pub mod CellLaws
 pub mod DocumentAnswers
+pub mod FoundLaws

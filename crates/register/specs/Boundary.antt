@@ -1,6 +1,8 @@
 -- One 64-bit number comes back: bits 0-7 the number of 01, bit 8 set when the answer is present (good, found, done or
 -- read), bits 16-39 the first length or value, bits 40-63 the second. A part without a use is zero.
+use mathlib.Core.Bool.{Bool, true, _&&_}
 use Prim.Native.Nat.{ℕ, _+_, _*_, _^_}
+use lib.Dec.{ltb}
 use Rattle.paper.specs.Refusals.{refusalNumber}
 use Rattle.paper.specs.declared.Refusal.{Refusal}
 use Rattle.paper.specs.declared.Checked.{Checked}
@@ -37,6 +39,12 @@ unfoldable pub foundWord : Found → ℕ
 foundWord (found.At start length) = word 0 1 start length
 foundWord found.Absent = absentWord
 foundWord (found.Refused refusal) = refusedWord refusal
+
+-- Its start and its length have room in the word.
+unfoldable pub foundFits : Found → Bool
+foundFits (found.At start length) = ltb start (2 ^ 24) && ltb length (2 ^ 24)
+foundFits found.Absent = true
+foundFits (found.Refused refusal) = true
 
 -- normalise and rebuild: the lengths of metadata and value, written on 0, needed on 9.
 unfoldable pub documentWord : DocumentAnswer → ℕ

@@ -3,17 +3,29 @@
 // answer (`specs/Boundary.antt`), and for a cell its own words (`specs/CellParts.antt`).
 ghost use mathlib.Core.Path.{_≡_};
 ghost use mathlib.Core.Bool.{true, not};
-ghost use Prim.Native.Nat.{_<_, _^_};
+ghost use Prim.Native.Nat.{_≤_, _<_, _^_};
 ghost use lib.Dec.{T};
-ghost use lib.Ieee.{isNan, toBits, binary32};
-ghost use Rattle.paper.specs.Operations.{cellAnswer, checkAnswer};
-ghost use Rattle.paper.specs.Words.{oneIf};
-ghost use Rattle.register.specs.Boundary.{word, refusedWord, checkedWord, cellWord};
+ghost use lib.Ieee.{isNan, toBits, binary32, binary64};
+ghost use lib.ListN.{length};
+ghost use Rattle.dictionary.specs.Judging.{Opened};
+ghost use Rattle.paper.specs.Limits.{mostLevels};
+ghost use Rattle.paper.specs.Metadata.{namesIn};
+ghost use Rattle.paper.specs.Operations.{checkAnswer, findAnswer, foundBy, cellAnswer, boxAnswer};
+ghost use Rattle.paper.specs.Paths.{pathOf, findFrom};
+ghost use Rattle.paper.specs.Refusals.{orElse, reached};
+ghost use Rattle.paper.specs.Values.{meaningOf};
+ghost use Rattle.paper.specs.Words.{oneIf, isThere};
+ghost use Rattle.register.specs.Boundary.{word, refusedWord, checkedWord, foundWord, foundFits, cellWord, boxWord};
+ghost use Rattle.register.specs.BoxParts.{sideOf, sideWord, sideHasBits};
 ghost use Rattle.register.specs.CellParts.{cellKind, firstOf, secondOf, firstWord, secondWord, hasBits, answerHasBits};
+use dictionary::Names;
 use documents::Document;
+use paper::BoxAnswer;
 use paper::Cell;
 use paper::CellAnswer;
 use paper::Checked;
+use paper::Found;
+use paper::LotBox;
 use paper::Refusal;
 
 // ---- words
@@ -61,6 +73,148 @@ pub extern "C" fn tanvelis_check(metadata: &[u8], value: &[u8]) -> u64
     ensures { λ r. ⌜ r ≡ checkedWord (checkAnswer (now (metadata .entry)) (now (value .entry))) ⌝ }
 {
     checked_word(check(metadata, value))
+}
+
+// ---- find
+
+// A path in a lawful document.
+fn find_in(metadata: &[u8], names: Names, value: &[u8], path: &[u8]) -> Found
+    requires { ⌜ Opened (now metadata) names × (isThere (meaningOf mostLevels (namesIn (now metadata)) (now value)) ≡ true) × (length (now value) ≤ 65536) ⌝ }
+    ensures { λ r. ⌜ r ≡ foundBy (orElse Refusal.BadPath (pathOf (now (path .entry))) λ steps. reached (findFrom (namesIn (now (metadata .entry))) steps 0 (now (value .entry)))) ⌝ }
+{
+    if paths::path_good(path) {
+        return paths::find(metadata, names, value, path);
+    }
+    Found::Refused(Refusal::BadPath)
+}
+
+// Finds a path: the start and the length, in the value, of the part that it leads to.
+pub fn find(metadata: &[u8], value: &[u8], path: &[u8]) -> Found
+    ensures { λ r. ⌜ r ≡ findAnswer (now (metadata .entry)) (now (value .entry)) (now (path .entry)) ⌝ }
+{
+    if paper::MOST_PATH < path.len() {
+        return Found::Refused(Refusal::TooLong);
+    }
+    let judged = documents::judge(metadata, value);
+    match judged {
+        Document::Lawful(names) => find_in(metadata, names, value, path),
+        Document::Refused(refusal) => Found::Refused(refusal),
+    }
+}
+
+fn found_word(answer: Found) -> u64
+    requires { ⌜ foundFits answer ≡ true ⌝ }
+    ensures { λ r. ⌜ r ≡ foundWord answer ⌝ }
+{
+    match answer {
+        Found::At { start, length } => word(0, true, start, length),
+        Found::Absent => word(0, false, 0, 0),
+        Found::Refused(refusal) => refused_word(refusal),
+    }
+}
+
+#[no_mangle]
+pub extern "C" fn tanvelis_find(metadata: &[u8], value: &[u8], path: &[u8]) -> u64
+    ensures { λ r. ⌜ r ≡ foundWord (findAnswer (now (metadata .entry)) (now (value .entry)) (now (path .entry))) ⌝ }
+{
+    found_word(find(metadata, value, path))
+}
+
+// ---- a lot's box
+
+// Reads a lot's box from a document's outermost object.
+pub fn lot_box(metadata: &[u8], value: &[u8]) -> BoxAnswer
+    ensures { λ r. ⌜ r ≡ boxAnswer (now (metadata .entry)) (now (value .entry)) ⌝ }
+{
+    let judged = documents::judge(metadata, value);
+    match judged {
+        Document::Lawful(names) => boxes::lot_box(metadata, names, value),
+        Document::Refused(refusal) => BoxAnswer::Refused(refusal),
+    }
+}
+
+fn box_word(answer: BoxAnswer) -> u64
+    ensures { λ r. ⌜ r ≡ boxWord answer ⌝ }
+{
+    match answer {
+        BoxAnswer::Read(_) => word(0, true, 0, 0),
+        BoxAnswer::Absent => word(0, false, 0, 0),
+        BoxAnswer::Refused(refusal) => refused_word(refusal),
+    }
+}
+
+#[no_mangle]
+pub extern "C" fn tanvelis_box(metadata: &[u8], value: &[u8]) -> u64
+    ensures { λ r. ⌜ r ≡ boxWord (boxAnswer (now (metadata .entry)) (now (value .entry))) ⌝ }
+{
+    box_word(lot_box(metadata, value))
+}
+
+// A side of a box.
+pub enum Side {
+    East,
+    North,
+    South,
+    West,
+}
+
+fn side_of(side: Side, read: LotBox) -> f64
+    ensures { λ r. ⌜ r ≡ sideOf side read ⌝ }
+{
+    match side {
+        Side::East => read.east,
+        Side::North => read.north,
+        Side::South => read.south,
+        Side::West => read.west,
+    }
+}
+
+// A double's bits.
+fn double_bits(x: f64) -> u64
+    requires { ⌜ T (not (isNan x)) ⌝ }
+    ensures { λ r. ⌜ r ≡ toBits binary64 x ⌝ }
+{
+    f64::to_bits(x)
+}
+
+// The bits of a side of the box that was read, 0 where there is none.
+fn side_word(side: Side, answer: BoxAnswer) -> u64
+    requires { ⌜ sideHasBits side answer ≡ true ⌝ }
+    ensures { λ r. ⌜ r ≡ sideWord side answer ⌝ }
+{
+    match answer {
+        BoxAnswer::Read(read) => double_bits(side_of(side, read)),
+        BoxAnswer::Absent => 0,
+        BoxAnswer::Refused(_) => 0,
+    }
+}
+
+#[no_mangle]
+pub extern "C" fn tanvelis_box_east(metadata: &[u8], value: &[u8]) -> u64
+    ensures { λ r. ⌜ r ≡ sideWord Side.East (boxAnswer (now (metadata .entry)) (now (value .entry))) ⌝ }
+{
+    side_word(Side::East, lot_box(metadata, value))
+}
+
+#[no_mangle]
+pub extern "C" fn tanvelis_box_north(metadata: &[u8], value: &[u8]) -> u64
+    ensures { λ r. ⌜ r ≡ sideWord Side.North (boxAnswer (now (metadata .entry)) (now (value .entry))) ⌝ }
+{
+    side_word(Side::North, lot_box(metadata, value))
+}
+
+#[no_mangle]
+pub extern "C" fn tanvelis_box_south(metadata: &[u8], value: &[u8]) -> u64
+    ensures { λ r. ⌜ r ≡ sideWord Side.South (boxAnswer (now (metadata .entry)) (now (value .entry))) ⌝ }
+{
+    side_word(Side::South, lot_box(metadata, value))
+}
+
+#[no_mangle]
+pub extern "C" fn tanvelis_box_west(metadata: &[u8], value: &[u8]) -> u64
+    ensures { λ r. ⌜ r ≡ sideWord Side.West (boxAnswer (now (metadata .entry)) (now (value .entry))) ⌝ }
+{
+    side_word(Side::West, lot_box(metadata, value))
 }
 
 // ---- one typed cell

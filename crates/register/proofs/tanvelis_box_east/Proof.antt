@@ -1,0 +1,20 @@
+-- `tanvelis_box_east`: the side of what `lot_box` answers, which is no NaN.
+use mathlib.Core.Path.{ap, _∙_}
+use borrow.Author.Needs.{needs}
+use Rattle.register.specs.BoxParts.{sideWord, sideHasBits}
+use Rattle.register.specs.declared.Side.the-variants.{East}
+use Rattle.register.proofs.BoxLaws.{side-has-bits}
+use Rattle.register.proofs.tanvelis_box_east.Statement.{statement}
+use Rattle.register.proofs.tanvelis_box_east.Tie as tie
+
+lot-box-requires : tie.Need-lot-box-requires
+lot-box-requires c κs = search needs
+
+side-word-requires : tie.Need-side-word-requires
+side-word-requires c κs = ap (sideHasBits East) (c .lot-box .ensures) ∙ side-has-bits East _ _
+
+returns : tie.Need-returns
+returns c = c .side-word .ensures ∙ ap (sideWord East) (c .before .lot-box .ensures)
+
+pub tanvelis-box-east-spec : {M : Type 1} → statement M
+tanvelis-box-east-spec = tie.close (tie.spec lot-box-requires side-word-requires returns)

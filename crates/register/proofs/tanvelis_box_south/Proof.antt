@@ -1,0 +1,20 @@
+-- `tanvelis_box_south`: the side of what `lot_box` answers, which is no NaN.
+use mathlib.Core.Path.{ap, _∙_}
+use borrow.Author.Needs.{needs}
+use Rattle.register.specs.BoxParts.{sideWord, sideHasBits}
+use Rattle.register.specs.declared.Side.the-variants.{South}
+use Rattle.register.proofs.BoxLaws.{side-has-bits}
+use Rattle.register.proofs.tanvelis_box_south.Statement.{statement}
+use Rattle.register.proofs.tanvelis_box_south.Tie as tie
+
+lot-box-requires : tie.Need-lot-box-requires
+lot-box-requires c κs = search needs
+
+side-word-requires : tie.Need-side-word-requires
+side-word-requires c κs = ap (sideHasBits South) (c .lot-box .ensures) ∙ side-has-bits South _ _
+
+returns : tie.Need-returns
+returns c = c .side-word .ensures ∙ ap (sideWord South) (c .before .lot-box .ensures)
+
+pub tanvelis-box-south-spec : {M : Type 1} → statement M
+tanvelis-box-south-spec = tie.close (tie.spec lot-box-requires side-word-requires returns)
