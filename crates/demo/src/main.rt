@@ -1,8 +1,11 @@
 // What the library answers about the sample lots of document 01, a line each, for an inspector to read.
 use libc::STDOUT_FILENO;
+use paper::BoxAnswer;
 use paper::Cell;
 use paper::CellAnswer;
 use paper::Checked;
+use paper::Found;
+use paper::Refusal;
 
 fn say(text: &[u8]) {
     io::write_all(STDOUT_FILENO, text);
@@ -19,11 +22,43 @@ fn check(lot: &[u8], metadata: &[u8], value: &[u8]) {
     let answer = register::check(metadata, value);
     match answer {
         Checked::Good => say(b": good\n"),
-        Checked::Refused(refusal) => {
-            say(b": refused, ");
-            say_number(paper::number(refusal) as u64);
+        Checked::Refused(refusal) => refused(refusal),
+    }
+}
+
+fn refused(refusal: Refusal) {
+    say(b": refused, ");
+    say_number(paper::number(refusal) as u64);
+    say(b"\n");
+}
+
+// One path looked for: where it leads, or that it leads nowhere.
+fn find(lot: &[u8], metadata: &[u8], value: &[u8], path: &[u8]) {
+    say(b"  ");
+    say(lot);
+    let answer = register::find(metadata, value, path);
+    match answer {
+        Found::At { start, length } => {
+            say(b": start ");
+            say_number(start as u64);
+            say(b", length ");
+            say_number(length as u64);
             say(b"\n");
         }
+        Found::Absent => say(b": absent\n"),
+        Found::Refused(refusal) => refused(refusal),
+    }
+}
+
+// One lot's box.
+fn lot_box(lot: &[u8], metadata: &[u8], value: &[u8]) {
+    say(b"  ");
+    say(lot);
+    let answer = register::lot_box(metadata, value);
+    match answer {
+        BoxAnswer::Read(_) => say(b": a box\n"),
+        BoxAnswer::Absent => say(b": no box\n"),
+        BoxAnswer::Refused(refusal) => refused(refusal),
     }
 }
 
@@ -33,13 +68,12 @@ fn cell(lot: &[u8], code: u8, bytes: &[u8]) {
     say(lot);
     let answer = register::cell(code, bytes);
     match answer {
-        CellAnswer::Read(read) => say_cell(read),
-        CellAnswer::Refused(refusal) => {
-            say(b": refused, ");
-            say_number(paper::number(refusal) as u64);
+        CellAnswer::Read(read) => {
+            say_cell(read);
+            say(b"\n");
         }
+        CellAnswer::Refused(refusal) => refused(refusal),
     }
-    say(b"\n");
 }
 
 // A signed number, by its two's complement.
@@ -173,6 +207,58 @@ fn cells_3() {
     );
 }
 
+fn finds_1() {
+    say(b"find in {a: null, b: true}\n");
+    find(
+        b"a leads to null",
+        b"\x01\x02\x00\x01\x02\x62\x61",
+        b"\x02\x02\x01\x00\x00\x01\x02\x00\x04",
+        b"\x60\x01\x00\x61",
+    );
+    find(
+        b"b leads to true",
+        b"\x01\x02\x00\x01\x02\x62\x61",
+        b"\x02\x02\x01\x00\x00\x01\x02\x00\x04",
+        b"\x60\x01\x00\x62",
+    );
+    find(
+        b"c leads nowhere",
+        b"\x01\x02\x00\x01\x02\x62\x61",
+        b"\x02\x02\x01\x00\x00\x01\x02\x00\x04",
+        b"\x60\x01\x00\x63",
+    );
+}
+
+fn finds_2() {
+    find(
+        b"no path: the whole value",
+        b"\x01\x02\x00\x01\x02\x62\x61",
+        b"\x02\x02\x01\x00\x00\x01\x02\x00\x04",
+        b"",
+    );
+    find(
+        b"a path that ends too soon",
+        b"\x01\x02\x00\x01\x02\x62\x61",
+        b"\x02\x02\x01\x00\x00\x01\x02\x00\x04",
+        b"\x60\x01",
+    );
+}
+
+fn boxes() {
+    say(b"a lot's box\n");
+    lot_box(
+        b"east 3, north 2, south 1, west 0",
+        b"\x11\x04\x00\x04\x09\x0e\x12\x65\x61\x73\x74\x6e\x6f\x72\x74\x68\x73\x6f\x75\x74\x68\x77\x65\x73\x74",
+        b"\x02\x04\x00\x01\x02\x03\x00\x09\x12\x1b\x24\x1c\x00\x00\x00\x00\x00\x00\x08\x40\x1c\x00\x00\x00\x00\x00\x00\x00\x40\x1c\x00\x00\x00\x00\x00\x00\xf0\x3f\x1c\x00\x00\x00\x00\x00\x00\x00\x00",
+    );
+    lot_box(
+        b"west 4 is above east 3",
+        b"\x11\x04\x00\x04\x09\x0e\x12\x65\x61\x73\x74\x6e\x6f\x72\x74\x68\x73\x6f\x75\x74\x68\x77\x65\x73\x74",
+        b"\x02\x04\x00\x01\x02\x03\x00\x09\x12\x1b\x24\x1c\x00\x00\x00\x00\x00\x00\x08\x40\x1c\x00\x00\x00\x00\x00\x00\x00\x40\x1c\x00\x00\x00\x00\x00\x00\xf0\x3f\x1c\x00\x00\x00\x00\x00\x00\x10\x40",
+    );
+    lot_box(b"null has no sides", b"\x01\x00\x00", b"\x00");
+}
+
 fn main() {
     metadata_1();
     metadata_2();
@@ -183,4 +269,7 @@ fn main() {
     cells_1();
     cells_2();
     cells_3();
+    finds_1();
+    finds_2();
+    boxes();
 }

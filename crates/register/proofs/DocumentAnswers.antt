@@ -166,6 +166,13 @@ module _ (m v p : List ℕ) (good : Bool) (told : good ≡ isThere (pathOf p)) w
       go none e is = never (sym e)
       go (some steps) e is = is steps refl
 
--- No second answer satisfies the contract of check.
+-- ---- no second answer satisfies a contract
+
 pub one-check : (m v : List ℕ) (r other : Checked) → r ≡ checkAnswer m v → other ≡ checkAnswer m v → r ≡ other
 one-check m v r other = one-answer
+
+pub one-find : (m v p : List ℕ) (r other : Found) → r ≡ findAnswer m v p → other ≡ findAnswer m v p → r ≡ other
+one-find m v p r other = one-answer
+
+pub one-box : (m v : List ℕ) (r other : BoxAnswer) → r ≡ boxAnswer m v → other ≡ boxAnswer m v → r ≡ other
+one-box m v r other = one-answer
