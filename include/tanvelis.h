@@ -1,5 +1,6 @@
 /*
- * Tanvelis: seven operations over lent bytes that hold Parquet Variant documents.
+ * Tanvelis: seven operations over lent bytes that hold Parquet Variant documents. In the library so
+ * far: check, find, cell and box; normalise, shred and rebuild are declared here and follow.
  *
  * SLICES. A slice is a pointer and then a length. `const uint8_t *` is an input and is only read;
  * `uint8_t *` is an output buffer, and its length is its room. A pointer is never null, also where
