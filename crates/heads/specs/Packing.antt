@@ -1,15 +1,17 @@
--- A reading as one number: its kind below 8, then its numbers, each but the last below 64.
-use Prim.Native.Nat.{ℕ, _+_, _*_}
+-- A reading in one byte: its kind below 8, and above that its sizes. The type of a primitive and the size of a short
+-- string are the six upper bits of the first byte itself.
+use mathlib.Core.Bool.{cond}
+use Prim.Native.Nat.{ℕ, _+_, _*_, _/_, _%_}
+use lib.Dec.{eqb}
 use Rattle.paper.specs.declared.Reading.{Reading}
 use Rattle.paper.specs.declared.Reading.the-variants.{Fixed, Prefixed, Short, ObjectHead, ArrayHead, Nothing}
 
-abbrev pub packing : (kind one two three : ℕ) → ℕ
-packing kind one two three = kind + 8 * (one + 64 * (two + 64 * three))
-
-unfoldable pub pack : Reading → ℕ
-pack (Fixed code size) = packing 0 code size 0
-pack (Prefixed code) = packing 1 code 0 0
-pack (Short size) = packing 2 size 0 0
-pack (ObjectHead count id offset) = packing 3 count id offset
-pack (ArrayHead count offset) = packing 4 count offset 0
-pack Nothing = packing 5 0 0 0
+unfoldable pub unpack : (first packed : ℕ) → Reading
+unpack first packed =
+    let rest = first / 4 in
+    let size = packed / 8 in
+    cond (eqb (packed % 8) 0) (Fixed rest size)
+    (cond (eqb (packed % 8) 1) (Prefixed rest)
+    (cond (eqb (packed % 8) 2) (Short rest)
+    (cond (eqb (packed % 8) 3) (ObjectHead (1 + 3 * (size / 16)) (size / 4 % 4 + 1) (size % 4 + 1))
+    (cond (eqb (packed % 8) 4) (ArrayHead (1 + 3 * (size / 4)) (size % 4 + 1)) Nothing))))

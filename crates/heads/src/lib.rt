@@ -5,7 +5,7 @@ ghost use Prim.Native.Nat.{_+_, _^_, _≤_, _<_};
 ghost use lib.ListN.{getD};
 ghost use Rattle.paper.specs.FirstBytes.{payloadSizes, readingOf};
 ghost use Rattle.paper.specs.Values.{headSize, containerExtent, extent};
-ghost use Rattle.heads.specs.Packing.{pack};
+ghost use Rattle.heads.specs.Packing.{unpack};
 ghost use Rattle.heads.specs.Extents.{extentAnswer};
 use paper::Reading;
 
@@ -26,43 +26,40 @@ pub fn payload_size(code: usize) -> usize
 }
 
 // A first byte's reading, packed.
-fn packed(first: u8) -> usize
-    ensures { λ r. ⌜ r ≡ pack (readingOf first) ⌝ }
+fn packed(first: u8) -> u8
+    ensures { λ r. ⌜ unpack first r ≡ readingOf first ⌝ }
 {
-    tables::READINGS[first as usize] as usize
+    tables::READINGS[first as usize]
 }
 
 // The one fixed reading of a first byte.
 pub fn reading(first: u8) -> Reading
     ensures { λ r. ⌜ r ≡ readingOf first ⌝ }
 {
-    let says = packed(first);
+    let says = packed(first) as usize;
+    let rest = first as usize / 4;
     let kind = says % 8;
-    let one = says / 8 % 64;
-    let two = says / 512 % 64;
+    let size = says / 8;
     if kind == 0 {
-        return Reading::Fixed {
-            code: one,
-            size: two,
-        };
+        return Reading::Fixed { code: rest, size };
     }
     if kind == 1 {
-        return Reading::Prefixed { code: one };
+        return Reading::Prefixed { code: rest };
     }
     if kind == 2 {
-        return Reading::Short { size: one };
+        return Reading::Short { size: rest };
     }
     if kind == 3 {
         return Reading::ObjectHead {
-            count: one,
-            id: two,
-            offset: says / 32768,
+            count: 1 + 3 * (size / 16),
+            id: size / 4 % 4 + 1,
+            offset: size % 4 + 1,
         };
     }
     if kind == 4 {
         return Reading::ArrayHead {
-            count: one,
-            offset: two,
+            count: 1 + 3 * (size / 4),
+            offset: size % 4 + 1,
         };
     }
     Reading::Nothing
