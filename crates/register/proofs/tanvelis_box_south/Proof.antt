@@ -11,7 +11,7 @@ lot-box-requires : tie.Need-lot-box-requires
 lot-box-requires c κs = search needs
 
 side-word-requires : tie.Need-side-word-requires
-side-word-requires c κs = ap (sideHasBits South) (c .lot-box .ensures) ∙ side-has-bits South _ _
+side-word-requires c κs = ap (sideHasBits _) (c .lot-box .ensures) ∙ side-has-bits _ _ _
 
 returns : tie.Need-returns
 returns c = c .side-word .ensures ∙ ap (sideWord South) (c .before .lot-box .ensures)
