@@ -2,5 +2,6 @@
 
 pub mod ReadingLaws
 pub mod PackLaws
+pub mod TableLaws
 pub mod HeadLaws
 pub mod ExtentLaws

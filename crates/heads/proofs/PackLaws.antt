@@ -1,12 +1,12 @@
 -- A packed reading, taken apart as the code does it, is the reading.
 use mathlib.Core.List.{List, [], _∷_}
-use mathlib.Core.Path.{_≡_}
+use mathlib.Core.Path.{_≡_, ap, _∙_}
 use Prim.Native.Nat.{ℕ, zero, suc, _+_, _*_, _/_, _%_, _<_}
 use native.Mathlib.Nat.{zero-add}
 use native.Mathlib.Omega.{arith}
 use borrow.Author.Tests.{ne-eqb}
 use lib.ListN.{length, getD}
-use Rattle.heads.specs.Packing.{unpack}
+use Rattle.heads.specs.Packing.{unpack, Readings}
 use Rattle.paper.specs.FirstBytes.{readingOf}
 use Rattle.paper.specs.declared.Reading.the-variants.{Fixed, Prefixed, Short, ObjectHead, ArrayHead, Nothing}
 use Rattle.paper.specs.declared.Reading.{Reading}
@@ -40,7 +40,10 @@ entry table e k h = rw zero-add at (entry-from 0 table e k h)
 
 -- ---- what the code hands out under each kind
 
-module _ (b p : ℕ) (e : unpack b p ≡ readingOf b) where
+module _ (table : List ℕ) (full : Readings table) (b p : ℕ) (small : b < 256) (is : p ≡ getD table b 0) where
+  e : unpack b p ≡ readingOf b
+  e = ap (unpack b) is ∙ full .says b small
+
   pub says-fixed : p % 8 ≡ 0 → Fixed (b / 4) (p / 8) ≡ readingOf b
   unfolding unpack
   says-fixed k = rw k at e

@@ -5,11 +5,13 @@ ghost use Prim.Native.Nat.{_+_, _^_, _≤_, _<_};
 ghost use lib.ListN.{getD};
 ghost use Rattle.paper.specs.FirstBytes.{payloadSizes, readingOf};
 ghost use Rattle.paper.specs.Values.{headSize, containerExtent, extent};
-ghost use Rattle.heads.specs.Packing.{unpack};
+ghost use Rattle.heads.specs.Packing.{Readings};
 ghost use Rattle.heads.specs.Extents.{extentAnswer};
 use paper::Reading;
 
 mod tables;
+
+pub use tables::READINGS;
 
 // How long a value says it is, where its head is there and says so.
 pub enum Extent {
@@ -25,18 +27,13 @@ pub fn payload_size(code: usize) -> usize
     tables::SIZES[code]
 }
 
-// A first byte's reading, packed.
-fn packed(first: u8) -> u8
-    ensures { λ r. ⌜ unpack first r ≡ readingOf first ⌝ }
-{
-    tables::READINGS[first as usize]
-}
-
-// The one fixed reading of a first byte.
-pub fn reading(first: u8) -> Reading
+// The one fixed reading of a first byte, by the table of readings, which is lent: a constant is laid out anew wherever it
+// is looked at, so whoever looks up many readings lays it out once.
+pub fn reading_by(readings: &[u8], first: u8) -> Reading
+    requires { ⌜ Readings (now readings) ⌝ }
     ensures { λ r. ⌜ r ≡ readingOf first ⌝ }
 {
-    let says = packed(first) as usize;
+    let says = numbers::wide(readings[first as usize]);
     let rest = first as usize / 4;
     let kind = says % 8;
     let size = says / 8;
@@ -63,6 +60,14 @@ pub fn reading(first: u8) -> Reading
         };
     }
     Reading::Nothing
+}
+
+// The one fixed reading of a first byte.
+pub fn reading(first: u8) -> Reading
+    ensures { λ r. ⌜ r ≡ readingOf first ⌝ }
+{
+    let readings = READINGS;
+    reading_by(&readings, first)
 }
 
 // The head of an array or an object, all before the value area, from its count and the bytes that the count, an id and an
@@ -92,13 +97,14 @@ fn container_extent(s: &[u8], width: usize, id: usize, offset: usize) -> Extent
 }
 
 // By its header, count and last offset alone, or a string's or binary's length.
-pub fn extent_of(s: &[u8]) -> Extent
+pub fn extent_of(readings: &[u8], s: &[u8]) -> Extent
+    requires { ⌜ Readings (now readings) ⌝ }
     ensures { λ r. ⌜ r ≡ extentAnswer (extent (now (s .entry))) ⌝ }
 {
     if s.len() == 0 {
         return Extent::Unknown;
     }
-    let says = reading(s[0]);
+    let says = reading_by(readings, s[0]);
     match says {
         Reading::Fixed { code: _, size } => Extent::Size(1 + size),
         Reading::Prefixed { code: _ } => {

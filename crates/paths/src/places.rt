@@ -73,7 +73,8 @@ fn child_at(s: &[u8], counted: usize, id: usize, width: usize, index: usize) -> 
     let starts = l.starts;
     let area = l.area;
     let start = numbers::read(&s[starts..], index * width, width);
-    let Extent::Size(size) = child_extent(&s[area..], start) else {
+    let readings = heads::READINGS;
+    let Extent::Size(size) = child_extent(&readings, &s[area..], start) else {
         return Place::Nowhere;
     };
     Place::At { start, size }

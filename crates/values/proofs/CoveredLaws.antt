@@ -1,23 +1,21 @@
 -- What `covered` answers: children that lie scattered cover the area once exactly when their sizes come to its length and
 -- the walk over their marks ends well.
 use mathlib.Core.Bool.{Bool, true, false, cond}
-use mathlib.Core.List.{List, [], _∷_, _++_, map}
+use mathlib.Core.List.{List, map}
 use mathlib.Core.Option.{Option, none, some}
 use mathlib.Core.Path.{_≡_, refl, ap, _∙_}
-use Prim.Native.Nat.{ℕ, _+_, _≤_}
+use Prim.Native.Nat.{ℕ, _+_, _*_, _≤_}
 use native.Mathlib.Omega.{arith}
-use borrow.Author.Tests.{ltb-true, lt-ltb}
-use lib.Dec.{ltb}
-use lib.ListN.{length, drop, replicate}
+use lib.ListN.{length, replicate}
 use Rattle.paper.specs.Values.{Child, childrenAt, endToEnd, everyByteOnce}
 use Rattle.paper.specs.Words.{allBelow}
 use Rattle.values.specs.Children.{sizes, lengthsFrom, lengthsOf, onceIn}
 use Rattle.values.specs.Marks.{markAll, Marked}
 use Rattle.values.specs.declared.children.Lengths.the-variants.{EndToEnd, Scattered}
-use Rattle.paper.proofs.WordLaws.{and-both, some-there}
+use Rattle.paper.proofs.WordLaws.{some-there}
 use Rattle.values.proofs.ChildLaws.{AllSized, SizedIn, children-sized, children-below}
 use Rattle.values.proofs.CoverLaws.{total, total-sizes, sum-of-once}
-use Rattle.values.proofs.WalkLaws.{all-within}
+use Rattle.values.proofs.WalkLaws.{all-within, below-more}
 
 -- Scattered children are there, and their sizes come to the sum.
 pub scattered-children : (end sum : ℕ) (K : Option (List Child)) → lengthsOf end K ≡ Scattered sum
@@ -30,20 +28,15 @@ scattered-children end sum (some children) e = (children, refl, go (endToEnd 0 e
     go true f = absurd (let z : _≡_ {A = ℕ} 0 1 = cc in omega arith)
     go false f = let same : 0 + sizes children ≡ sum = cc in omega arith
 
-below-more : (a b : ℕ) (ns : List ℕ) → a ≤ b → allBelow a ns ≡ true → allBelow b ns ≡ true
-unfolding allBelow
-below-more a b [] h e = refl
-below-more a b (n ∷ ns) h e =
-    let both = and-both (ltb n a) (allBelow a ns) e in
-    let less = ltb-true n a (both .0) in
-    rw (lt-ltb n b (omega arith)) (below-more a b ns h (both .1))
-
 module _ (area starts : List ℕ) (sum : ℕ) (lie : lengthsOf (length area) (childrenAt area starts) ≡ Scattered sum) where
   are : (children : List Child) × (childrenAt area starts ≡ some children) × (sizes children ≡ sum)
   are = scattered-children (length area) sum (childrenAt area starts) lie
 
   pub covered-below : (size : ℕ) → length area ≤ size → allBelow size starts ≡ true
   covered-below size h = below-more (length area) size starts h (children-below area starts (some-there (childrenAt area starts) (are .1)))
+
+  pub covered-lie : sum ≡ length area → lengthsOf (length area) (childrenAt area starts) ≡ Scattered (length area)
+  covered-lie e = lie ∙ ap Scattered e
 
   pub covered-sum : (sum ≡ length area → ⊥) → false ≡ onceIn (length area) (childrenAt area starts)
   unfolding onceIn SizedIn
@@ -60,12 +53,14 @@ module _ (area starts : List ℕ) (sum : ℕ) (lie : lengthsOf (length area) (ch
           let own : sizes (are .0) ≡ sum = are .2 in
           absurd (other (omega arith))
 
-  pub covered-walked : (r : Bool) (marks cleared marks₀ : List ℕ)
-      → ((runs : List ℕ) (children : List Child) → Marked area runs children marks → r ≡ everyByteOnce (length area) children)
-      → marks ≡ markAll cleared starts → cleared ≡ replicate (length area) 0 ++ drop (length area) marks₀ → sum ≡ length area
-      → r ≡ onceIn (length area) (childrenAt area starts)
-  unfolding onceIn
-  covered-walked r marks cleared marks₀ answers map-is clean e =
-      rw (are .1)
-      (answers starts (are .0)
-      (record { are = are .1; sum = are .2 ∙ e; rest = drop (length area) marks₀; map = map-is ∙ ap (λ (l : List ℕ). markAll l starts) clean }))
+  -- what the marking and the walk ask, and what the walk's answer is; the map is clean and has room
+  module _ (e : sum ≡ length area) (clean : List ℕ) (is-clean : clean ≡ replicate (length clean) 0) (room : length area ≤ 8 * length clean) where
+    pub covered-walked : (r : Bool) (marks : List ℕ)
+        → ((runs : List ℕ) (children : List Child) → Marked area runs children marks → r ≡ everyByteOnce (length area) children)
+        → marks ≡ markAll clean starts
+        → r ≡ onceIn (length area) (childrenAt area starts)
+    unfolding onceIn
+    covered-walked r marks answers map-is =
+        rw (are .1)
+        (answers starts (are .0)
+        (record { are = are .1; sum = are .2 ∙ e; size = length clean; room = room; map = map-is ∙ ap (λ (l : List ℕ). markAll l starts) is-clean }))

@@ -4,30 +4,34 @@ use mathlib.Core.List.{List, _∷_}
 use mathlib.Core.Option.{Option, none, some}
 use mathlib.Core.Path.{_≡_, refl, sym, ap, _∙_}
 use Prim.Native.Nat.{ℕ, _+_, _-_, _*_, _≤_, _<_}
+use native.Mathlib.Nat.{add-zero}
 use native.Mathlib.Omega.{arith}
 use borrow.Author.Tests.{eq-eqb}
 use lib.ListN.{length, take, drop, length-take, length-drop}
+use lib.Seq.{getD-take, getD-drop}
 use mir.Syntax.{w64}
 use mir.Val.{Fits}
-use Rattle.dictionary.specs.Judging.{Opened}
-use Rattle.dictionary.specs.declared.Names.{Names}
 use Rattle.heads.specs.Extents.{extentAnswer}
 use Rattle.heads.specs.declared.Extent.the-variants.{Size, Unknown}
 use Rattle.heads.specs.declared.Extent.{Extent}
 use Rattle.numbers.specs.Little.{numberAt}
+use Rattle.paper.specs.FirstBytes.{readingOf}
 use Rattle.paper.specs.Meaning.{Doc}
-use Rattle.paper.specs.Values.{Child, extent, childExtent, childrenAt, childBytes, areaOf, startsOf, whole, endsAt}
-use Rattle.paper.specs.Words.{numbers, isThere, andThen}
-use Rattle.values.specs.Children.{allGood, insidesGood}
+use Rattle.paper.specs.Metadata.{Dictionary}
+use Rattle.paper.specs.Values.{Child, extent, childExtent, childrenAt, childBytes, areaOf, startsOf, meaningOf, whole, endsAt}
+use Rattle.paper.specs.Words.{at, numbers, isThere, andThen}
+use Rattle.values.specs.Children.{plainBy, childGood, allGood, insidesGood}
 use Rattle.values.specs.Layouts.{Container, LaidOut}
 use Rattle.values.specs.declared.shape.Layout.{Layout}
 use Rattle.dictionary.proofs.NumbersRunLaws.{rest}
-use Rattle.heads.proofs.HeadLaws.{extent-take}
-use Rattle.paper.proofs.WordLaws.{never}
+use Rattle.heads.proofs.HeadLaws.{extent-positive, extent-take}
+use Rattle.paper.proofs.WordLaws.{never, there-some}
 use Rattle.values.proofs.ChildLaws.{withFirst, children-none, children-some, extent-fits}
-use Rattle.values.proofs.LayoutLaws.{area-same, starts-same, area-small, area-room, starts-there, starts-few}
+use Rattle.values.proofs.LayoutLaws.{area-same, starts-same, area-small, starts-there, starts-few}
 use Rattle.values.proofs.LengthLaws.{unknown-none, size-some}
+use Rattle.values.proofs.PlainLaws.{plain-good}
 use Rattle.values.proofs.RunLaws.{Standing, standing-start, standing-there, standing-fits, standing-next, run-next, run-ended}
+use Rattle.values.proofs.ValueLaws.{false-first, true-first}
 
 -- ---- a child's own bytes
 
@@ -51,61 +55,132 @@ module _ (area : List ℕ) (start size : ℕ) (long : childExtent area start ≡
       extent-take (drop start area) (start + size - start) (extent-fits area start size long .0) (omega arith) in
       rw has (eq-eqb size (length (take (start + size - start) (drop start area))) (sym own-size))
 
+-- ---- one child
+
+module _ (area : List ℕ) (start : ℕ) (r : Extent) (told : r ≡ extentAnswer (childExtent area start)) (size : ℕ) (e : r ≡ Size size) where
+  pub known : childExtent area start ≡ some size
+  known = size-some (childExtent area start) size (sym told ∙ e)
+
+  pub child-end : length area ≤ 65536 → Fits w64 (start + size)
+  child-end small = let fit = extent-fits area start size known .1 in record { fits = omega arith }
+
+  pub child-in : start + size ≤ length area
+  child-in = extent-fits area start size known .1
+
+  -- what the judging of the child asks
+  pub child-asks : length area ≤ 65536 → (whole (own area start size known) ≡ true) × (length (own area start size known) ≤ 65536)
+  child-asks small =
+      let size-is : length (own area start size known) ≡ size = own-size area start size known in
+      let fit = child-in in
+      (own-whole area start size known, omega arith)
+
+module _ (inner : List ℕ → Option Doc) (area : List ℕ) (start : ℕ) where
+  pub child-lost : (r : Extent) → r ≡ extentAnswer (childExtent area start) → r ≡ Unknown → false ≡ childGood inner area start
+  unfolding childGood andThen isThere
+  child-lost r told e = rw (unknown-none (childExtent area start) (sym told ∙ e))
+
+  child-is : (size : ℕ) → childExtent area start ≡ some size → childGood inner area start ≡ isThere (inner (childBytes area (record { start = start; size = size })))
+  unfolding childGood andThen
+  child-is size e = rw e
+
+  -- b is what the child's own judging answered
+  pub child-judged : (r : Extent) → r ≡ extentAnswer (childExtent area start) → (size : ℕ) → r ≡ Size size
+      → (b : Bool) → b ≡ isThere (inner (take (start + size - start) (drop start area))) → b ≡ childGood inner area start
+  child-judged r told size e b judged =
+      let long : childExtent area start ≡ some size = known area start r told size e in
+      judged ∙ ap (λ (l : List ℕ). isThere (inner l)) (own-is area start size long) ∙ sym (child-is size long)
+
+-- ---- a child with nothing inside that could break a rule
+
+module _ (area : List ℕ) (start : ℕ) (there : isThere (childExtent area start) ≡ true) where
+  pub child-starts : start < length area
+  child-starts =
+      let has = there-some (childExtent area start) there in
+      let fit = extent-fits area start (has .0) (has .1) in
+      let least = extent-positive (drop start area) (fit .0) in
+      omega arith
+
+  first-own : (size : ℕ) (long : childExtent area start ≡ some size) → at (own area start size long) 0 ≡ at area start
+  first-own size long =
+      let least : 1 ≤ size = extent-positive (drop start area) (extent-fits area start size long .0) in
+      getD-take (start + size - start) (drop start area) 0 0 (omega arith) ∙ getD-drop start area 0 0 ∙ ap (at area) (add-zero start)
+
+  pub child-plain : (levels : ℕ) (names : Dictionary) → (levels ≡ 0 → ⊥) → (b : Bool) → b ≡ plainBy (readingOf (at area start)) → b ≡ true
+      → true ≡ childGood (meaningOf levels names) area start
+  child-plain levels names some-left b told e =
+      let has = there-some (childExtent area start) there in
+      let size : ℕ = has .0 in
+      let long : childExtent area start ≡ some size = has .1 in
+      sym (child-is (meaningOf levels names) area start size long
+      ∙ ap (λ (l : List ℕ). isThere (meaningOf levels names l)) (sym (own-is area start size long))
+      ∙ plain-good levels names (own area start size long) some-left (own-whole area start size long)
+      (ap (λ (n : ℕ). plainBy (readingOf n)) (first-own size long) ∙ sym told ∙ e))
+
 -- ---- one child more
 
 module _ (inner : List ℕ → Option Doc) (area : List ℕ) (start : ℕ) (more : List ℕ) where
-  insides-none : childExtent area start ≡ none → insidesGood inner area (childrenAt area (start ∷ more)) ≡ false
-  unfolding insidesGood
-  insides-none e = rw (children-none area start more e)
-
-  insides-more : (size : ℕ) → childExtent area start ≡ some size
-      → insidesGood inner area (childrenAt area (start ∷ more))
-      ≡ isThere (inner (childBytes area (record { start = start; size = size }))) && insidesGood inner area (childrenAt area more)
-  unfolding insidesGood allGood withFirst andThen
-  insides-more size e = rw (children-some area start more size e) (go (childrenAt area more))
+  insides-more : insidesGood inner area (childrenAt area (start ∷ more)) ≡ childGood inner area start && insidesGood inner area (childrenAt area more)
+  unfolding insidesGood allGood childGood withFirst andThen isThere
+  insides-more = go (childExtent area start) refl
     where
-      first : Bool
-      first = isThere (inner (childBytes area (record { start = start; size = size })))
+      with-size : (first : Bool) (size : ℕ) (K : Option (List Child))
+          → first ≡ isThere (inner (childBytes area (record { start = start; size = size })))
+          → insidesGood inner area (withFirst start size K) ≡ first && insidesGood inner area K
+      with-size first size none e = sym (and-false first)
+      with-size first size (some children) e = rw e
 
-      go : (K : Option (List Child)) → insidesGood inner area (withFirst start size K) ≡ first && insidesGood inner area K
-      go none = sym (and-false first)
-      go (some children) = refl
+      go : (x : Option ℕ) → childExtent area start ≡ x
+          → insidesGood inner area (childrenAt area (start ∷ more))
+          ≡ isThere (andThen x λ size. inner (childBytes area (record { start = start; size = size }))) && insidesGood inner area (childrenAt area more)
+      go none e = rw (children-none area start more e)
+      go (some size) e = rw (children-some area start more size e)
+          (with-size (isThere (inner (childBytes area (record { start = start; size = size })))) size (childrenAt area more) refl)
+
+  -- the first is there, and so are the others
+  there-more : isThere (childrenAt area (start ∷ more)) ≡ true → (isThere (childExtent area start) ≡ true) × (isThere (childrenAt area more) ≡ true)
+  unfolding withFirst andThen isThere
+  there-more = go (childExtent area start) refl
+    where
+      rest-there : (size : ℕ) (K : Option (List Child)) → isThere (withFirst start size K) ≡ true → isThere K ≡ true
+      rest-there size none f = f
+      rest-there size (some children) f = refl
+
+      go : (x : Option ℕ) → childExtent area start ≡ x → isThere (childrenAt area (start ∷ more)) ≡ true
+          → (isThere x ≡ true) × (isThere (childrenAt area more) ≡ true)
+      go none e f = never (sym (rw (children-none area start more e) at f))
+      go (some size) e f = (refl, rest-there size (childrenAt area more) (rw (children-some area start more size e) at f))
 
 -- ---- the loop
 
--- After k children: what is left decides.
-pub record InsidesSeen (inner : List ℕ → Option Doc) (s : List ℕ) (c i w : ℕ) (area starts marks₀ marks : List ℕ) (count place k : ℕ) : Type 0 where
+-- After k children: what is left is there, and decides.
+pub record InsidesSeen (inner : List ℕ → Option Doc) (s : List ℕ) (c i w : ℕ) (area starts : List ℕ) (count place k : ℕ) : Type 0 where
   pub standing : Standing w count place k
   pub starts-in : count * w ≤ length starts
   pub starts-small : length starts ≤ 65536
   pub same-area : area ≡ areaOf c i w s
   pub same-starts : numbers w count starts ≡ startsOf c i w s
   pub small : length area ≤ 65536
-  pub room : length area ≤ length marks₀
-  pub same-room : length marks ≡ length marks₀
+  pub left-there : isThere (childrenAt area (drop k (numbers w count starts))) ≡ true
   pub whole-is : insidesGood inner area (childrenAt area (numbers w count starts)) ≡ insidesGood inner area (childrenAt area (drop k (numbers w count starts)))
 
 pub insides-start : (inner : List ℕ → Option Doc) {s : List ℕ} {c i w : ℕ} → Container s c i w → {l : Layout} → LaidOut s c i w l
-    → (marks : List ℕ) → length s ≤ length marks → InsidesSeen inner s c i w (rest s (l .area)) (rest s (l .starts)) marks marks (l .count) 0 0
-insides-start inner {s} {c} {i} {w} container {l} laid marks h =
+    → isThere (childrenAt (areaOf c i w s) (startsOf c i w s)) ≡ true → InsidesSeen inner s c i w (rest s (l .area)) (rest s (l .starts)) (l .count) 0 0
+insides-start inner {s} {c} {i} {w} container {l} laid there =
+    let same-area : rest s (l .area) ≡ areaOf c i w s = area-same s c i w container l laid in
+    let same-starts : numbers w (l .count) (rest s (l .starts)) ≡ startsOf c i w s = rw (laid .width-is) at (starts-same s c i w container l laid) in
     record {
       standing = standing-start w (l .count);
       starts-in = rw (laid .width-is) at (starts-there s c i w container l laid);
       starts-small = starts-few s c i w container l laid;
-      same-area = area-same s c i w container l laid;
-      same-starts = rw (laid .width-is) at (starts-same s c i w container l laid);
+      same-area = same-area;
+      same-starts = same-starts;
       small = area-small s c i w container l laid;
-      room = area-room s c i w container l laid (length marks) h;
-      same-room = refl;
+      left-there = rw (same-area, same-starts) there;
       whole-is = refl;
     }
 
-module _ {inner : List ℕ → Option Doc} {s : List ℕ} {c i w : ℕ} {area starts marks₀ marks : List ℕ} {count place k : ℕ}
-    (seen : InsidesSeen inner s c i w area starts marks₀ marks count place k) (least : 1 ≤ w) where
-  -- the answer, in the words of 01
-  abbrev pub Answer : Bool
-  Answer = insidesGood inner (areaOf c i w s) (childrenAt (areaOf c i w s) (startsOf c i w s))
-
+module _ {inner : List ℕ → Option Doc} {s : List ℕ} {c i w : ℕ} {area starts : List ℕ} {count place k : ℕ}
+    (seen : InsidesSeen inner s c i w area starts count place k) (least : 1 ≤ w) where
   here : insidesGood inner area (childrenAt area (numbers w count starts)) ≡ insidesGood inner (areaOf c i w s) (childrenAt (areaOf c i w s) (startsOf c i w s))
   here = rw (seen .same-area, seen .same-starts)
 
@@ -124,64 +199,32 @@ module _ {inner : List ℕ → Option Doc} {s : List ℕ} {c i w : ℕ} {area st
     next : drop k (numbers w count starts) ≡ start ∷ drop (k + 1) (numbers w count starts)
     next = run-next (seen .standing) starts least (seen .starts-in) h start is
 
-    left : insidesGood inner area (childrenAt area (numbers w count starts)) ≡ insidesGood inner area (childrenAt area (start ∷ drop (k + 1) (numbers w count starts)))
-    left = seen .whole-is ∙ ap (λ (l : List ℕ). insidesGood inner area (childrenAt area l)) next
+    left : isThere (childrenAt area (start ∷ drop (k + 1) (numbers w count starts))) ≡ true
+    left = sym (ap (λ (l : List ℕ). isThere (childrenAt area l)) next) ∙ seen .left-there
 
-    module _ (r : Extent) (told : r ≡ extentAnswer (childExtent area start)) where
-      pub insides-lost : r ≡ Unknown → false ≡ insidesGood inner (areaOf c i w s) (childrenAt (areaOf c i w s) (startsOf c i w s))
-      insides-lost e =
-          sym (sym here ∙ left ∙ insides-none inner area start (drop (k + 1) (numbers w count starts)) (unknown-none (childExtent area start) (sym told ∙ e)))
+    -- what the judging of the child asks
+    pub next-asks : (isThere (childExtent area start) ≡ true) × (length area ≤ 65536)
+    next-asks = (there-more inner area start (drop (k + 1) (numbers w count starts)) left .0, seen .small)
 
-      module _ (size : ℕ) (e : r ≡ Size size) where
-        pub known : childExtent area start ≡ some size
-        known = size-some (childExtent area start) size (sym told ∙ e)
+    -- b is what the judging of the child answered
+    module _ (b : Bool) (judged : b ≡ childGood inner area start) where
+      all : insidesGood inner area (childrenAt area (numbers w count starts)) ≡ b && insidesGood inner area (childrenAt area (drop (k + 1) (numbers w count starts)))
+      all =
+          seen .whole-is ∙ ap (λ (l : List ℕ). insidesGood inner area (childrenAt area l)) next
+          ∙ insides-more inner area start (drop (k + 1) (numbers w count starts)) ∙ rw judged
 
-        pub child-end : Fits w64 (start + size)
-        child-end = let fit = extent-fits area start size known .1 in let small = seen .small in record { fits = omega arith }
+      pub insides-bad : not b ≡ true → false ≡ insidesGood inner (areaOf c i w s) (childrenAt (areaOf c i w s) (startsOf c i w s))
+      insides-bad f = sym (sym here ∙ all ∙ false-first b _ f)
 
-        pub child-in : start + size ≤ length area
-        child-in = extent-fits area start size known .1
-
-        -- what the judging of the child asks
-        pub child-asks : {m : List ℕ} {d : Names} → Opened m d
-            → Opened m d × (whole (own area start size known) ≡ true) × (length (own area start size known) ≤ 65536) × (length (own area start size known) ≤ length marks)
-        child-asks opened =
-            let size-is : length (own area start size known) ≡ size = own-size area start size known in
-            let fit = child-in in
-            let small = seen .small in
-            let room = seen .room in
-            let same = seen .same-room in
-            (opened, own-whole area start size known, omega arith, omega arith)
-
-        -- b is what the child's own judging answered
-        module _ (b : Bool) (judged : b ≡ isThere (inner (take (start + size - start) (drop start area)))) where
-          all : insidesGood inner area (childrenAt area (numbers w count starts)) ≡ b && insidesGood inner area (childrenAt area (drop (k + 1) (numbers w count starts)))
-          all =
-              left ∙ insides-more inner area start (drop (k + 1) (numbers w count starts)) size known
-              ∙ rw (judged, own-is area start size known)
-
-          pub insides-bad : not b ≡ true → false ≡ insidesGood inner (areaOf c i w s) (childrenAt (areaOf c i w s) (startsOf c i w s))
-          insides-bad f = sym (sym here ∙ all ∙ go b f)
-            where
-              go : (b : Bool) → not b ≡ true → b && insidesGood inner area (childrenAt area (drop (k + 1) (numbers w count starts))) ≡ false
-              go true g = never (sym g)
-              go false g = refl
-
-          pub insides-next : not b ≡ false → (after : List ℕ) → length after ≡ length marks
-              → InsidesSeen inner s c i w area starts marks₀ after count (place + w) (k + 1)
-          insides-next f after same =
-              record {
-                standing = standing-next (seen .standing) starts least (seen .starts-in) h;
-                starts-in = seen .starts-in;
-                starts-small = seen .starts-small;
-                same-area = seen .same-area;
-                same-starts = seen .same-starts;
-                small = seen .small;
-                room = seen .room;
-                same-room = same ∙ seen .same-room;
-                whole-is = all ∙ go b f;
-              }
-            where
-              go : (b : Bool) → not b ≡ false → b && insidesGood inner area (childrenAt area (drop (k + 1) (numbers w count starts))) ≡ insidesGood inner area (childrenAt area (drop (k + 1) (numbers w count starts)))
-              go true g = refl
-              go false g = never g
+      pub insides-next : not b ≡ false → InsidesSeen inner s c i w area starts count (place + w) (k + 1)
+      insides-next f =
+          record {
+            standing = standing-next (seen .standing) starts least (seen .starts-in) h;
+            starts-in = seen .starts-in;
+            starts-small = seen .starts-small;
+            same-area = seen .same-area;
+            same-starts = seen .same-starts;
+            small = seen .small;
+            left-there = there-more inner area start (drop (k + 1) (numbers w count starts)) left .1;
+            whole-is = all ∙ true-first b _ f;
+          }

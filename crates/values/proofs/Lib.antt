@@ -3,6 +3,7 @@ pub mod RunLaws
 pub mod CoverLaws
 pub mod ChildLaws
 pub mod LengthLaws
+pub mod BitLaws
 pub mod MarkLaws
 pub mod WalkLaws
 pub mod CoveredLaws
@@ -10,6 +11,7 @@ pub mod FieldLaws
 pub mod LayoutLaws
 pub mod ShapeLaws
 pub mod PrimitiveLaws
+pub mod PlainLaws
 pub mod InsideLaws
 pub mod VerdictLaws
 pub mod ValueLaws

@@ -1,19 +1,19 @@
 -- Marks at the starts of children: the loop that sets them, and what the map then says.
 use mathlib.Core.Bool.{true, false}
-use mathlib.Core.List.{List, [], _∷_, _++_, map}
-use mathlib.Core.Option.{some}
+use mathlib.Core.List.{List, [], _∷_, map}
 use mathlib.Core.Path.{_≡_, refl, sym, ap, _∙_}
-use Prim.Native.Nat.{ℕ, _+_, _*_, _≤_, _<_}
+use Prim.Native.Nat.{ℕ, _+_, _*_, _/_, _≤_, _<_}
 use native.Mathlib.Omega.{arith}
-use borrow.Author.Fill.{fill-more}
-use lib.Dec.{leb, eqb}
-use lib.ListN.{length, getD, set, drop, replicate, length-set, length-append, length-replicate, getD-replicate, List·getD-append}
-use lib.Seq.{getD-set-same, getD-set-other}
+use borrow.Author.Tests.{ltb-true}
+use lib.Dec.{leb, ltb, eqb}
+use lib.ListN.{length, getD, drop, replicate, length-replicate}
 use Rattle.numbers.specs.Little.{numberAt}
 use Rattle.paper.specs.Values.{Child}
 use Rattle.paper.specs.Words.{oneIf, numbers, allBelow}
-use Rattle.values.specs.Marks.{markAll}
+use Rattle.values.specs.Marks.{bitOf, setBit, markAll}
 use Rattle.dictionary.proofs.NumbersRunLaws.{run-length, below-at}
+use Rattle.paper.proofs.WordLaws.{and-both}
+use Rattle.values.proofs.BitLaws.{set-bit, other-bit, length-set-bit, clean-bit}
 use Rattle.values.proofs.CoverLaws.{Test, passed, failed, equal, atMost, starting}
 use Rattle.values.proofs.RunLaws.{Standing, standing-start, standing-next, run-next, run-here, run-ended}
 
@@ -29,75 +29,80 @@ unfolding starting times
 starting-times place [] = refl
 starting-times place (child ∷ more) = ap (λ (n : ℕ). oneIf (eqb (child .start) place) + n) (starting-times place more)
 
--- What is marked stays marked, and so does what one more start marks.
-mark-keeps : (marks : List ℕ) (start i : ℕ) → i < length marks → getD marks i 0 ≡ 1 → getD (set marks start 1) i 0 ≡ 1
+-- What is marked stays marked.
+mark-keeps : (marks : List ℕ) (start i : ℕ) → start / 8 < length marks → bitOf marks i ≡ 1 → bitOf (setBit marks start) i ≡ 1
 mark-keeps marks start i h e = go (equal i start)
   where
-    go : Test (eqb i start) (i ≡ start) (i ≡ start → ⊥) → getD (set marks start 1) i 0 ≡ 1
-    go (passed t same) = rw same (getD-set-same marks start 1 0 (omega arith))
-    go (failed t other) = getD-set-other marks start i 1 0 other ∙ e
+    go : Test (eqb i start) (i ≡ start) (i ≡ start → ⊥) → bitOf (setBit marks start) i ≡ 1
+    go (passed t same) = rw same (set-bit marks start h)
+    go (failed t other) = other-bit marks start i other h ∙ e
 
-marked-stays : (marks starts : List ℕ) (i : ℕ) → i < length marks → getD marks i 0 ≡ 1 → getD (markAll marks starts) i 0 ≡ 1
+-- The starts have bits on the map.
+abbrev pub AllOn : List ℕ → List ℕ → Type 0
+AllOn marks starts = allBelow (8 * length marks) starts ≡ true
+
+on-more : (marks : List ℕ) (start : ℕ) (more : List ℕ) → AllOn marks (start ∷ more) → (start / 8 < length marks) × AllOn (setBit marks start) more
+unfolding allBelow
+on-more marks start more e =
+    let both = and-both (ltb start (8 * length marks)) (allBelow (8 * length marks) more) e in
+    let below : start < 8 * length marks = ltb-true start (8 * length marks) (both .0) in
+    (omega arith, rw (length-set-bit marks start) (both .1))
+
+marked-stays : (marks starts : List ℕ) (i : ℕ) → AllOn marks starts → bitOf marks i ≡ 1 → bitOf (markAll marks starts) i ≡ 1
 unfolding markAll
-marked-stays marks [] i h e = e
-marked-stays marks (start ∷ more) i h e =
-    marked-stays (set marks start 1) more i (rw length-set h) (mark-keeps marks start i h e)
+marked-stays marks [] i on e = e
+marked-stays marks (start ∷ more) i on e =
+    let first = on-more marks start more on in
+    marked-stays (setBit marks start) more i (first .1) (mark-keeps marks start i (first .0) e)
 
 -- What is among the starts is marked.
-pub marked : (marks starts : List ℕ) (i : ℕ) → i < length marks → 1 ≤ times i starts → getD (markAll marks starts) i 0 ≡ 1
+pub marked : (marks starts : List ℕ) (i : ℕ) → AllOn marks starts → 1 ≤ times i starts → bitOf (markAll marks starts) i ≡ 1
 unfolding markAll times oneIf
-marked marks [] i h k = absurd (omega arith)
-marked marks (start ∷ more) i h k = go (equal start i) (marked (set marks start 1) more i (rw length-set h)) k
+marked marks [] i on k = absurd (omega arith)
+marked marks (start ∷ more) i on k = go (equal start i) (on-more marks start more on) (marked (setBit marks start) more i) k
   where
-    go : Test (eqb start i) (start ≡ i) (start ≡ i → ⊥) → (1 ≤ times i more → getD (markAll (set marks start 1) more) i 0 ≡ 1)
-        → 1 ≤ oneIf (eqb start i) + times i more → getD (markAll (set marks start 1) more) i 0 ≡ 1
-    go (passed t same) rest k =
-        marked-stays (set marks start 1) more i (rw length-set h) (rw same (getD-set-same marks i 1 0 h))
-    go (failed t other) rest k =
+    go : Test (eqb start i) (start ≡ i) (start ≡ i → ⊥) → (start / 8 < length marks) × AllOn (setBit marks start) more
+        → (AllOn (setBit marks start) more → 1 ≤ times i more → bitOf (markAll (setBit marks start) more) i ≡ 1)
+        → 1 ≤ oneIf (eqb start i) + times i more → bitOf (markAll (setBit marks start) more) i ≡ 1
+    go (passed t same) first rest k =
+        marked-stays (setBit marks start) more i (first .1) (ap (bitOf (setBit marks start)) (sym same) ∙ set-bit marks start (first .0))
+    go (failed t other) first rest k =
         let later : 1 ≤ oneIf false + times i more = rw t at k in
-        rest (omega arith)
+        rest (first .1) (omega arith)
 
 -- What is not among the starts keeps what it had.
-pub unmarked : (marks starts : List ℕ) (i : ℕ) → times i starts ≡ 0 → getD (markAll marks starts) i 0 ≡ getD marks i 0
+pub unmarked : (marks starts : List ℕ) (i : ℕ) → AllOn marks starts → times i starts ≡ 0 → bitOf (markAll marks starts) i ≡ bitOf marks i
 unfolding markAll times oneIf
-unmarked marks [] i k = refl
-unmarked marks (start ∷ more) i k = go (equal start i) k (unmarked (set marks start 1) more i)
+unmarked marks [] i on k = refl
+unmarked marks (start ∷ more) i on k = go (equal start i) (on-more marks start more on) k (unmarked (setBit marks start) more i)
   where
-    go : Test (eqb start i) (start ≡ i) (start ≡ i → ⊥) → oneIf (eqb start i) + times i more ≡ 0
-        → (times i more ≡ 0 → getD (markAll (set marks start 1) more) i 0 ≡ getD (set marks start 1) i 0)
-        → getD (markAll (set marks start 1) more) i 0 ≡ getD marks i 0
-    go (passed t same) k rest = absurd (let bad : oneIf true + times i more ≡ 0 = rw t at k in omega arith)
-    go (failed t other) k rest =
+    go : Test (eqb start i) (start ≡ i) (start ≡ i → ⊥) → (start / 8 < length marks) × AllOn (setBit marks start) more
+        → oneIf (eqb start i) + times i more ≡ 0
+        → (AllOn (setBit marks start) more → times i more ≡ 0 → bitOf (markAll (setBit marks start) more) i ≡ bitOf (setBit marks start) i)
+        → bitOf (markAll (setBit marks start) more) i ≡ bitOf marks i
+    go (passed t same) first k rest = absurd (let bad : oneIf true + times i more ≡ 0 = rw t at k in omega arith)
+    go (failed t other) first k rest =
         let later : oneIf false + times i more ≡ 0 = rw t at k in
-        rest (omega arith) ∙ getD-set-other marks start i 1 0 (λ e. other (sym e))
+        rest (first .1) (omega arith) ∙ other-bit marks start i (λ e. other (sym e)) (first .0)
 
 pub length-marks : (marks starts : List ℕ) → length (markAll marks starts) ≡ length marks
 unfolding markAll
 length-marks marks [] = refl
-length-marks marks (start ∷ more) = length-marks (set marks start 1) more ∙ length-set marks start 1
+length-marks marks (start ∷ more) = length-marks (setBit marks start) more ∙ length-set-bit marks start
 
 -- On a clean map: 1 where a start is, else 0.
-pub map-says : (clean : ℕ) (rest starts : List ℕ) (i : ℕ) → i < clean
-    → getD (markAll (replicate clean 0 ++ rest) starts) i 0 ≡ oneIf (leb 1 (times i starts))
+pub map-says : (size : ℕ) (starts : List ℕ) (i : ℕ) → allBelow (8 * size) starts ≡ true → i < 8 * size
+    → bitOf (markAll (replicate size 0) starts) i ≡ oneIf (leb 1 (times i starts))
 unfolding oneIf
-map-says clean rest starts i h = go (atMost 1 (times i starts))
+map-says size starts i on h = go (atMost 1 (times i starts))
   where
-    zeros : List ℕ
-    zeros = replicate clean 0
-
-    size : i < length zeros
-    size = rw (length-replicate clean (let z : ℕ = 0 in z)) h
-
-    inside : i < length (zeros ++ rest)
-    inside = let e = length-append zeros rest in omega (arith, size)
-
-    zero-there : getD (zeros ++ rest) i 0 ≡ 0
-    zero-there = List·getD-append zeros rest 0 i size ∙ getD-replicate clean i 0 0 h
+    all-on : AllOn (replicate size 0) starts
+    all-on = rw (length-replicate size (let z : ℕ = 0 in z)) on
 
     go : Test (leb 1 (times i starts)) (1 ≤ times i starts) (times i starts < 1)
-        → getD (markAll (replicate clean 0 ++ rest) starts) i 0 ≡ oneIf (leb 1 (times i starts))
-    go (passed t k) = rw t (marked (replicate clean 0 ++ rest) starts i inside k)
-    go (failed t k) = rw t (unmarked (replicate clean 0 ++ rest) starts i (omega arith) ∙ zero-there)
+        → bitOf (markAll (replicate size 0) starts) i ≡ oneIf (leb 1 (times i starts))
+    go (passed t k) = rw t (marked (replicate size 0) starts i all-on k)
+    go (failed t k) = rw t (unmarked (replicate size 0) starts i all-on (omega arith) ∙ clean-bit size i (omega arith))
 
 -- ---- the loop that marks
 
@@ -113,43 +118,24 @@ marks-start starts marks width count = record { standing = standing-start width 
 module _ {starts marks₀ marks : List ℕ} {width count place i : ℕ} (seen : MarksSeen starts marks₀ marks width count place i)
     (least : 1 ≤ width) (there : count * width ≤ length starts) where
   module _ (h : i < count) (start : ℕ) (is : start ≡ numberAt starts place width) where
-    pub mark-inside : allBelow (length marks₀) (numbers width count starts) ≡ true → start < length marks
+    pub mark-inside : allBelow (8 * length marks₀) (numbers width count starts) ≡ true → start / 8 < length marks
     mark-inside below =
         let size : length (numbers width count starts) ≡ count = run-length width count starts least there in
         let here : getD (numbers width count starts) i 0 ≡ start = run-here (seen .standing) starts least there h start is in
-        let bound : getD (numbers width count starts) i 0 < length marks₀ = below-at (length marks₀) (numbers width count starts) i below (omega arith) in
+        let bound : getD (numbers width count starts) i 0 < 8 * length marks₀ = below-at (8 * length marks₀) (numbers width count starts) i below (omega arith) in
         let same : length marks ≡ length marks₀ = seen .same-size in
         omega arith
 
-    pub marks-next : MarksSeen starts marks₀ (set marks start 1) width count (place + width) (i + 1)
+    pub marks-next : {after : List ℕ} → after ≡ setBit marks start → MarksSeen starts marks₀ after width count (place + width) (i + 1)
     unfolding markAll
-    marks-next =
+    marks-next e =
         record {
           standing = standing-next (seen .standing) starts least there h;
-          same-size = length-set marks start 1 ∙ seen .same-size;
-          whole = seen .whole ∙ ap (markAll marks) (run-next (seen .standing) starts least there h start is);
+          same-size = ap length e ∙ length-set-bit marks start ∙ seen .same-size;
+          whole = seen .whole ∙ ap (markAll marks) (run-next (seen .standing) starts least there h start is)
+              ∙ ap (λ (l : List ℕ). markAll l (drop (i + 1) (numbers width count starts))) (sym e);
         }
 
   pub marks-done : count ≤ i → marks ≡ markAll marks₀ (numbers width count starts)
   unfolding markAll
   marks-done past = sym (seen .whole ∙ ap (markAll marks) (run-ended (seen .standing) starts least there past))
-
--- ---- the loop that clears
-
-pub record Cleared (marks₀ marks : List ℕ) (i : ℕ) : Type 0 where
-  pub same-size : length marks ≡ length marks₀
-  pub clean : marks ≡ replicate i 0 ++ drop i marks₀
-
-pub cleared-none : (marks : List ℕ) → Cleared marks marks 0
-cleared-none marks = record { same-size = refl; clean = refl }
-
-module _ {marks₀ marks : List ℕ} {i : ℕ} (cleared : Cleared marks₀ marks i) where
-  pub cleared-more : i < length marks₀ → Cleared marks₀ (set marks i 0) (i + 1)
-  cleared-more h =
-      record { same-size = length-set marks i 0 ∙ cleared .same-size; clean = rw (cleared .clean) (fill-more i 0 marks₀ h) }
-
-  pub cleared-inside : i < length marks₀ → i < length marks
-  cleared-inside h = let same = cleared .same-size in omega arith
-
-  pub cleared-all : (count : ℕ) → i ≤ count → count ≤ i → marks ≡ replicate count 0 ++ drop count marks₀
-  cleared-all count h k = let same : i ≡ count = omega arith in rw (← same) (cleared .clean)

@@ -28,6 +28,9 @@ primitive-verdict (suc (suc (suc more))) s =
     there-given (not (leb 8 (suc (suc (suc more))) && leb (suc (suc (suc more))) 10) || leb (at s 0) 38) (some (scalar (payload (suc (suc (suc more))) s)))
     ∙ and-true (not (leb 8 (suc (suc (suc more))) && leb (suc (suc (suc more))) 10) || leb (at s 0) 38)
 
+pub primitive-plain : (code : ℕ) (s : List ℕ) → not (leb 8 code && leb code 10) ≡ true → isThere (primitiveMeaning code s) ≡ true
+primitive-plain code s e = primitive-verdict code s ∙ rw e
+
 module _ (code : ℕ) (s : List ℕ) where
   pub primitive-low : code < 8 → true ≡ isThere (primitiveMeaning code (drop 1 s))
   primitive-low h = sym (primitive-verdict code (drop 1 s) ∙ rw (lt-leb 8 code h))

@@ -21,7 +21,7 @@ use Rattle.dictionary.proofs.NumbersRunLaws.{rest}
 use Rattle.paper.proofs.WordLaws.{and-both}
 use Rattle.values.proofs.ChildLaws.{SizedIn, children-sized}
 use Rattle.values.proofs.CoverLaws.{inside, holding, Holds, held, before-it, behind-it, holders-cons, AllWithin, total-sizes, once-by-sum}
-use Rattle.values.proofs.LayoutLaws.{area-same, starts-same, ids-same, ids-there, lengths-asks, area-room}
+use Rattle.values.proofs.LayoutLaws.{area-same, starts-same, ids-same, ids-there, lengths-asks}
 use Rattle.values.proofs.WalkLaws.{all-within}
 
 -- ---- children end to end
@@ -144,13 +144,10 @@ module _ {s : List ℕ} {c i w : ℕ} (container : Container s c i w) {l : Layou
       → b ≡ onceIn (length (areaOf c i w s)) (childrenAt (areaOf c i w s) (startsOf c i w s))
   once-covered b e = e ∙ rw (area-same s c i w container l laid, starts-same s c i w container l laid)
 
-  pub covered-asks : (sum room : ℕ) → r ≡ Scattered sum → length s ≤ room
-      → ((l .count * l .width ≤ length (rest s (l .starts))) × (1 ≤ l .width) × (l .width ≤ 4) × (l .count ≤ 65536))
-      × (((length (rest s (l .area)) ≤ 65536) × (length (rest s (l .area)) ≤ room))
-      × (lengthsOf (length (rest s (l .area))) (childrenAt (rest s (l .area)) (numbers (l .width) (l .count) (rest s (l .starts)))) ≡ Scattered sum))
-  covered-asks sum room e h =
-      let asks = lengths-asks s c i w container l laid in
-      ((asks .0, asks .1, asks .2, asks .3), ((asks .4, area-room s c i w container l laid room h), sym told ∙ e))
+  pub covered-asks : (sum : ℕ) → r ≡ Scattered sum
+      → ((l .count * l .width ≤ length (rest s (l .starts))) × (1 ≤ l .width) × (l .width ≤ 4) × (l .count ≤ 65536) × (length (rest s (l .area)) ≤ 65536))
+      × (lengthsOf (length (rest s (l .area))) (childrenAt (rest s (l .area)) (numbers (l .width) (l .count) (rest s (l .starts)))) ≡ Scattered sum)
+  covered-asks sum e = (lengths-asks s c i w container l laid, sym told ∙ e)
 
 -- ---- the answers about an object
 

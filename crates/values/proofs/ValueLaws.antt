@@ -1,13 +1,14 @@
 -- What a value comes to, by the reading of its first byte.
 use mathlib.Core.Bool.{Bool, true, false, not, _&&_}
 use mathlib.Core.List.{List}
+use mathlib.Core.Option.{Option, none, some}
 use mathlib.Core.Path.{_≡_, refl, sym, ap, _∙_}
 use Prim.Native.Nat.{ℕ, zero, suc, _-_, _≤_, _<_}
 use native.Mathlib.Omega.{arith}
 use lib.ListN.{length, drop}
 use Rattle.paper.specs.FirstBytes.{readingOf}
 use Rattle.paper.specs.Metadata.{Dictionary, rising}
-use Rattle.paper.specs.Values.{childrenAt, primitiveMeaning, meaningBy, meaningOf, areaOf, startsOf, idsOf, namesAt, whole, extentBy}
+use Rattle.paper.specs.Values.{Child, childrenAt, primitiveMeaning, meaningBy, meaningOf, areaOf, startsOf, idsOf, namesAt, whole, extentBy}
 use Rattle.paper.specs.Words.{at, isThere, allBelow}
 use Rattle.paper.specs.declared.Reading.the-variants.{Fixed, Prefixed, Short, ObjectHead, ArrayHead, Nothing}
 use Rattle.paper.specs.declared.Reading.{Reading}
@@ -15,18 +16,33 @@ use Rattle.values.specs.Children.{onceIn, tiledIn, insidesGood}
 use Rattle.values.specs.Layouts.{Container}
 use Rattle.heads.proofs.HeadLaws.{extent-some}
 use Rattle.heads.proofs.ReadingLaws.{object-sizes, array-sizes}
-use Rattle.paper.proofs.WordLaws.{never, given-passed}
+use Rattle.paper.proofs.WordLaws.{never, given-passed, and-both}
 use Rattle.values.proofs.LayoutLaws.{ids-starts-length}
 use Rattle.values.proofs.PrimitiveLaws.{whole-extent}
 use Rattle.values.proofs.VerdictLaws.{array-verdict, object-verdict}
 
-false-first : (b q : Bool) → not b ≡ true → b && q ≡ false
+pub false-first : (b q : Bool) → not b ≡ true → b && q ≡ false
 false-first true q f = never (sym f)
 false-first false q f = refl
 
-true-first : (b q : Bool) → not b ≡ false → b && q ≡ q
+pub true-first : (b q : Bool) → not b ≡ false → b && q ≡ q
 true-first true q f = refl
 true-first false q f = never f
+
+kept : (b : Bool) → not b ≡ false → b ≡ true
+kept true f = refl
+kept false f = never f
+
+-- Children that lie as they must are there.
+tiled-there : (end : ℕ) (K : Option (List Child)) → tiledIn end K ≡ true → isThere K ≡ true
+unfolding tiledIn isThere
+tiled-there end none e = e
+tiled-there end (some children) e = refl
+
+once-there : (end : ℕ) (K : Option (List Child)) → onceIn end K ≡ true → isThere K ≡ true
+unfolding onceIn isThere
+once-there end none e = e
+once-there end (some children) e = refl
 
 regroup : (x y z : Bool) → x && (y && z) ≡ (x && y) && z
 regroup true y z = refl
@@ -75,6 +91,20 @@ module _ (s : List ℕ) (fills : whole s ≡ true) (r : Reading) (told : r ≡ r
 
   pub object-id : (c i w : ℕ) → r ≡ ObjectHead c i w → 1 ≤ i
   object-id c i w e = object-sizes (at s 0) (sym told ∙ e) .1 .0
+
+-- b is what was said of how the children lie: they are there
+pub array-there : (s : List ℕ) (c w : ℕ) (b : Bool) → b ≡ tiledIn (length (areaOf c 0 w s)) (childrenAt (areaOf c 0 w s) (startsOf c 0 w s))
+    → not b ≡ false → isThere (childrenAt (areaOf c 0 w s) (startsOf c 0 w s)) ≡ true
+array-there s c w b lies f = tiled-there (length (areaOf c 0 w s)) (childrenAt (areaOf c 0 w s) (startsOf c 0 w s)) (sym lies ∙ kept b f)
+
+pub object-there : (names : Dictionary) (s : List ℕ) (c i w : ℕ) (b : Bool)
+    → b ≡ (allBelow (length names) (idsOf c i s) && rising (namesAt names (idsOf c i s)))
+    && onceIn (length (areaOf c i w s)) (childrenAt (areaOf c i w s) (startsOf c i w s))
+    → not b ≡ false → isThere (childrenAt (areaOf c i w s) (startsOf c i w s)) ≡ true
+object-there names s c i w b lies f =
+    once-there (length (areaOf c i w s)) (childrenAt (areaOf c i w s) (startsOf c i w s))
+    (and-both (allBelow (length names) (idsOf c i s) && rising (namesAt names (idsOf c i s)))
+    (onceIn (length (areaOf c i w s)) (childrenAt (areaOf c i w s) (startsOf c i w s))) (sym lies ∙ kept b f) .1)
 
 -- ---- what a value comes to
 

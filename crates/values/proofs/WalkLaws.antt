@@ -1,26 +1,27 @@
 -- The walk over an area by the children's lengths: it covers what it has passed, it stands where a child ends, and where
 -- no child starts under it some byte is not held once.
-use mathlib.Core.Bool.{Bool, true, false}
+use mathlib.Core.Bool.{Bool, true, false, not}
 use mathlib.Core.List.{List, [], _∷_, map}
 use mathlib.Core.Option.{none, some, Option·some-injective as some-injective}
 use mathlib.Core.Path.{_≡_, refl, sym, ap, _∙_}
-use Prim.Native.Nat.{ℕ, zero, suc, _+_, _-_, _≤_, _<_}
+use Prim.Native.Nat.{ℕ, zero, suc, _+_, _-_, _*_, _≤_, _<_}
 use native.Mathlib.Omega.{arith}
-use borrow.Author.Tests.{eq-eqb, le-leb}
+use borrow.Author.Tests.{eq-eqb, le-leb, eqb-true, eqb-false, ltb-true, lt-ltb}
 use lib.Dec.{leb, ltb, eqb}
-use lib.ListN.{length, drop, getD}
+use lib.ListN.{length, drop}
 use mir.Syntax.{w64}
 use mir.Val.{Fits}
 use Rattle.heads.specs.Extents.{extentAnswer}
 use Rattle.heads.specs.declared.Extent.the-variants.{Size, Unknown}
 use Rattle.heads.specs.declared.Extent.{Extent}
-use Rattle.paper.specs.Values.{Child, childExtent, holders, everyByteOnce}
-use Rattle.paper.specs.Words.{oneIf, isThere}
+use Rattle.paper.specs.Values.{Child, childExtent, childrenAt, holders, everyByteOnce}
+use Rattle.paper.specs.Words.{oneIf, isThere, allBelow}
 use Rattle.values.specs.Children.{sizes}
-use Rattle.values.specs.Marks.{Marked}
+use Rattle.values.specs.Marks.{bitOf, Marked}
 use Rattle.heads.proofs.HeadLaws.{extent-positive}
-use Rattle.paper.proofs.WordLaws.{never}
-use Rattle.values.proofs.ChildLaws.{AllSized, SizedIn, children-sized, extent-fits}
+use Rattle.paper.proofs.WordLaws.{never, and-both, some-there as some-is-there}
+use Rattle.values.proofs.BitLaws.{bit-or-none}
+use Rattle.values.proofs.ChildLaws.{AllSized, SizedIn, children-sized, children-below, extent-fits}
 use Rattle.values.proofs.CoverLaws.{Test, passed, failed, equal, less, inside, holding, Holds, held, before-it, behind-it, AllWithin, starting, ending, total-sizes, once-by-sum, cut-without-start, holders-cons}
 use Rattle.values.proofs.LengthLaws.{unknown-none, size-some}
 use Rattle.values.proofs.MarkLaws.{times, starting-times, map-says}
@@ -98,7 +99,7 @@ pub record Scattered (area : List ℕ) (children : List Child) (marks : List ℕ
   pub sized : AllSized area children
   pub within : AllWithin (length area) children
   pub sum : sizes children ≡ length area
-  pub starts : (i : ℕ) → i < length area → getD marks i 0 ≡ oneIf (leb 1 (starting i children))
+  pub starts : (i : ℕ) → i < length area → bitOf marks i ≡ oneIf (leb 1 (starting i children))
 
 -- What the walk has passed is held, and it stands at the start or where a child ends.
 pub record Walked (children : List Child) (place : ℕ) : Type 0 where
@@ -107,13 +108,13 @@ pub record Walked (children : List Child) (place : ℕ) : Type 0 where
 
 module _ (area : List ℕ) (children : List Child) (marks : List ℕ) (scattered : Scattered area children marks) (place : ℕ) (walked : Walked children place) where
   -- no mark: no child starts here
-  pub walk-unmarked : place < length area → getD marks place 0 ≡ 0 → false ≡ everyByteOnce (length area) children
+  pub walk-unmarked : place < length area → bitOf marks place ≡ 0 → false ≡ everyByteOnce (length area) children
   walk-unmarked h e =
       sym (cut-without-start (length area) place children (scattered .within) h (walked .at-end)
       (none-there (starting place children) (sym (scattered .starts place h) ∙ e)))
 
   -- a mark: a child starts here, has its length, and the walk goes on to its end
-  module _ (h : place < length area) (mark : getD marks place 0 ≡ 0 → ⊥) where
+  module _ (h : place < length area) (mark : bitOf marks place ≡ 0 → ⊥) where
     here : 1 ≤ starting place children
     here = some-there (starting place children) (λ e. mark (scattered .starts place h ∙ e))
 
@@ -146,6 +147,14 @@ walk-start children = record { passed-held = λ i h. absurd (omega arith); at-en
 
 -- ---- from a marked map to the walk
 
+pub below-more : (a b : ℕ) (ns : List ℕ) → a ≤ b → allBelow a ns ≡ true → allBelow b ns ≡ true
+unfolding allBelow
+below-more a b [] h e = refl
+below-more a b (n ∷ ns) h e =
+    let both = and-both (ltb n a) (allBelow a ns) e in
+    let less = ltb-true n a (both .0) in
+    rw (lt-ltb n b (omega arith)) (below-more a b ns h (both .1))
+
 pub all-within : (area : List ℕ) (children : List Child) → AllSized area children → AllWithin (length area) children
 unfolding AllSized AllWithin
 all-within area [] sized = tt
@@ -158,6 +167,11 @@ module _ (area starts : List ℕ) (children : List Child) (marks : List ℕ) (ma
   unfolding SizedIn
   facts = rw (map-of .are) at (children-sized area starts)
 
+  on : allBelow (8 * map-of .size) starts ≡ true
+  on =
+      below-more (length area) (8 * map-of .size) starts (map-of .room)
+      (children-below area starts (some-is-there (childrenAt area starts) (map-of .are)))
+
   pub marked-scattered : Scattered area children marks
   marked-scattered =
       record {
@@ -165,7 +179,7 @@ module _ (area starts : List ℕ) (children : List Child) (marks : List ℕ) (ma
         within = all-within area children (facts .0);
         sum = map-of .sum;
         starts = λ i h.
-            ap (λ (l : List ℕ). getD l i 0) (map-of .map) ∙ map-says (length area) (map-of .rest) starts i h
+            ap (λ (l : List ℕ). bitOf l i) (map-of .map) ∙ map-says (map-of .size) starts i on (let room = map-of .room in omega arith)
             ∙ ap (λ (n : ℕ). oneIf (leb 1 n)) (ap (times i) (sym (facts .1)) ∙ sym (starting-times i children));
       }
 
@@ -188,33 +202,47 @@ module _ {area marks : List ℕ} {place : ℕ} (seen : WalkSeen area marks place
       walk-ended area children marks (marked-scattered area starts children marks m) place (seen .walked starts children m) past (seen .within)
 
   module _ (h : place < length area) where
-    pub seen-unmarked : getD marks place 0 ≡ 0 → Answers false
-    seen-unmarked e starts children m =
-        walk-unmarked area children marks (marked-scattered area starts children marks m) place (seen .walked starts children m) h e
+    -- b is what the map says of the place
+    module _ (b : Bool) (says : b ≡ eqb (bitOf marks place) 1) where
+      pub seen-unmarked : not b ≡ true → Answers false
+      seen-unmarked f starts children m =
+          walk-unmarked area children marks (marked-scattered area starts children marks m) place (seen .walked starts children m) h
+          (go b says f (bit-or-none marks place))
+        where
+          go : (b : Bool) → b ≡ eqb (bitOf marks place) 1 → not b ≡ true → bitOf marks place ≤ 1 → bitOf marks place ≡ 0
+          go true e f most = never (sym f)
+          go false e f most = let apart = eqb-false (bitOf marks place) 1 (sym e) in omega arith
 
-    module _ (mark : getD marks place 0 ≡ 0 → ⊥) (r : Extent) (told : r ≡ extentAnswer (childExtent area place)) where
-      pub seen-lost : r ≡ Unknown → Answers false
-      seen-lost e starts children m =
-          walk-lost area children marks (marked-scattered area starts children marks m) place (seen .walked starts children m) h mark
-          (unknown-none (childExtent area place) (sym told ∙ e))
+      module _ (f : not b ≡ false) (r : Extent) (told : r ≡ extentAnswer (childExtent area place)) where
+        mark : bitOf marks place ≡ 0 → ⊥
+        mark z = go b says f
+          where
+            go : (b : Bool) → b ≡ eqb (bitOf marks place) 1 → not b ≡ false → ⊥
+            go true e f = let one = eqb-true (bitOf marks place) 1 (sym e) in omega arith
+            go false e f = never f
 
-      module _ (size : ℕ) (e : r ≡ Size size) where
-        known : childExtent area place ≡ some size
-        known = size-some (childExtent area place) size (sym told ∙ e)
+        pub seen-lost : r ≡ Unknown → Answers false
+        seen-lost e starts children m =
+            walk-lost area children marks (marked-scattered area starts children marks m) place (seen .walked starts children m) h mark
+            (unknown-none (childExtent area place) (sym told ∙ e))
 
-        pub seen-fits : length area ≤ 65536 → Fits w64 (place + size)
-        seen-fits small = let fit = extent-fits area place size known in record { fits = omega arith }
+        module _ (size : ℕ) (e : r ≡ Size size) where
+          known : childExtent area place ≡ some size
+          known = size-some (childExtent area place) size (sym told ∙ e)
 
-        pub seen-falls : length area - (place + size) < length area - place
-        seen-falls =
-            let fit = extent-fits area place size known in
-            let least = extent-positive (drop place area) (fit .0) in
-            omega arith
+          pub seen-fits : length area ≤ 65536 → Fits w64 (place + size)
+          seen-fits small = let fit = extent-fits area place size known in record { fits = omega arith }
 
-        pub seen-next : WalkSeen area marks (place + size)
-        seen-next =
-            record {
-              within = extent-fits area place size known .1;
-              walked = λ starts children m.
-                  walk-on area children marks (marked-scattered area starts children marks m) place (seen .walked starts children m) h mark size known;
-            }
+          pub seen-falls : length area - (place + size) < length area - place
+          seen-falls =
+              let fit = extent-fits area place size known in
+              let least = extent-positive (drop place area) (fit .0) in
+              omega arith
+
+          pub seen-next : WalkSeen area marks (place + size)
+          seen-next =
+              record {
+                within = extent-fits area place size known .1;
+                walked = λ starts children m.
+                    walk-on area children marks (marked-scattered area starts children marks m) place (seen .walked starts children m) h mark size known;
+              }

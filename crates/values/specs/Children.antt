@@ -1,11 +1,14 @@
 -- What the inner functions of the walker answer of a container's children, in terms of the definitions of 01's values.
-use mathlib.Core.Bool.{Bool, true, false, cond, _&&_}
+use mathlib.Core.Bool.{Bool, true, false, cond, not, _&&_}
 use mathlib.Core.List.{List, [], _∷_}
 use mathlib.Core.Option.{Option, none, some}
 use Prim.Native.Nat.{ℕ, _+_}
-use Rattle.paper.specs.Words.{isThere}
+use lib.Dec.{leb}
+use Rattle.paper.specs.declared.Reading.{Reading}
+use Rattle.paper.specs.declared.Reading.the-variants.{Fixed, Prefixed, Short, ObjectHead, ArrayHead, Nothing}
+use Rattle.paper.specs.Words.{isThere, andThen}
 use Rattle.paper.specs.Meaning.{Doc}
-use Rattle.paper.specs.Values.{Child, endToEnd, everyByteOnce, childBytes}
+use Rattle.paper.specs.Values.{Child, endToEnd, everyByteOnce, childExtent, childBytes}
 use Rattle.values.specs.declared.children.Lengths.{Lengths}
 use Rattle.values.specs.declared.children.Lengths.the-variants.{Broken, EndToEnd, Scattered}
 
@@ -32,6 +35,21 @@ onceIn end (some children) = everyByteOnce end children
 unfoldable pub tiledIn : (end : ℕ) → Option (List Child) → Bool
 tiledIn end none = false
 tiledIn end (some children) = endToEnd 0 end children
+
+-- A value of this reading has nothing inside that could break a rule: only a decimal's scale and a container's children
+-- are judged beyond their lengths.
+unfoldable pub plainBy : Reading → Bool
+plainBy (Fixed type size) = not (leb 8 type && leb type 10)
+plainBy (Prefixed type) = true
+plainBy (Short size) = true
+plainBy (ObjectHead count id offset) = false
+plainBy (ArrayHead count offset) = false
+plainBy Nothing = false
+
+-- The child at a start is there and lawful inside, by what decodes one.
+unfoldable pub childGood : (List ℕ → Option Doc) → List ℕ → (start : ℕ) → Bool
+childGood inner area start =
+    isThere (andThen (childExtent area start) λ size. inner (childBytes area (record { start = start; size = size })))
 
 -- The insides of children are all lawful, by what decodes one.
 unfoldable pub allGood : (List ℕ → Option Doc) → List ℕ → List Child → Bool

@@ -7,6 +7,7 @@ ghost use lib.ListN.{length};
 ghost use Rattle.paper.specs.Words.{numbers};
 ghost use Rattle.paper.specs.Values.{childExtent, childrenAt};
 ghost use Rattle.heads.specs.Extents.{extentAnswer};
+ghost use Rattle.heads.specs.Packing.{Readings};
 ghost use Rattle.values.specs.Children.{lengthsOf};
 use heads::Extent;
 
@@ -19,13 +20,14 @@ pub enum Lengths {
 }
 
 // How long the child at a start is, if it has a length and does not pass the area.
-pub fn child_extent(area: &[u8], start: usize) -> Extent
+pub fn child_extent(readings: &[u8], area: &[u8], start: usize) -> Extent
+    requires { ⌜ Readings (now readings) ⌝ }
     ensures { λ r. ⌜ r ≡ extentAnswer (childExtent (now (area .entry)) start) ⌝ }
 {
     if area.len() <= start {
         return Extent::Unknown;
     }
-    let Extent::Size(size) = heads::extent_of(&area[start..]) else {
+    let Extent::Size(size) = heads::extent_of(readings, &area[start..]) else {
         return Extent::Unknown;
     };
     if area.len() - start < size {
@@ -42,8 +44,14 @@ fn follows(in_order: bool, start: usize, from: usize) -> bool
 }
 
 // What the lengths of the children come to whose starts stand one after another, so many.
-pub fn lengths_of(area: &[u8], starts: &[u8], width: usize, count: usize) -> Lengths
-    requires { ⌜ (count * width ≤ length (now starts)) × (1 ≤ width) × (width ≤ 4) × (count ≤ 65536) × (length (now area) ≤ 65536) ⌝ }
+pub fn lengths_of(
+    readings: &[u8],
+    area: &[u8],
+    starts: &[u8],
+    width: usize,
+    count: usize,
+) -> Lengths
+    requires { ⌜ Readings (now readings) × (count * width ≤ length (now starts)) × (1 ≤ width) × (width ≤ 4) × (count ≤ 65536) × (length (now area) ≤ 65536) ⌝ }
     ensures { λ r. ⌜ r ≡ lengthsOf (length (now (area .entry))) (childrenAt (now (area .entry)) (numbers width count (now (starts .entry)))) ⌝ }
 {
     let mut in_order = true;
@@ -53,7 +61,7 @@ pub fn lengths_of(area: &[u8], starts: &[u8], width: usize, count: usize) -> Len
     let mut i = 0;
     while i < count {
         let start = numbers::read(starts, place, width);
-        let Extent::Size(size) = child_extent(area, start) else {
+        let Extent::Size(size) = child_extent(readings, area, start) else {
             return Lengths::Broken;
         };
         in_order = follows(in_order, start, from);

@@ -7,6 +7,7 @@ ghost use Rattle.paper.specs.Words.{allBelow};
 ghost use Rattle.paper.specs.Metadata.{namesIn, rising};
 ghost use Rattle.paper.specs.Values.{areaOf, startsOf, idsOf, namesAt, childrenAt};
 ghost use Rattle.dictionary.specs.Judging.{Opened};
+ghost use Rattle.heads.specs.Packing.{Readings};
 ghost use Rattle.values.specs.Children.{onceIn, tiledIn};
 ghost use Rattle.values.specs.Layouts.{Container, LaidOut};
 use crate::children::Lengths;
@@ -39,14 +40,14 @@ pub fn layout_of(s: &[u8], counted: usize, id: usize, width: usize) -> Layout
 }
 
 // An array's children are there, and each ends where the next starts.
-pub fn array_lies(s: &[u8], counted: usize, width: usize) -> bool
-    requires { ⌜ Container (now s) counted 0 width ⌝ }
+pub fn array_lies(readings: &[u8], s: &[u8], counted: usize, width: usize) -> bool
+    requires { ⌜ Container (now s) counted 0 width × Readings (now readings) ⌝ }
     ensures { λ r. ⌜ r ≡ tiledIn (length (areaOf counted 0 width (now (s .entry)))) (childrenAt (areaOf counted 0 width (now (s .entry))) (startsOf counted 0 width (now (s .entry)))) ⌝ }
 {
     let l = layout_of(s, counted, 0, width);
     let starts = l.starts;
     let area = l.area;
-    let lie = lengths_of(&s[area..], &s[starts..], l.width, l.count);
+    let lie = lengths_of(readings, &s[area..], &s[starts..], l.width, l.count);
     match lie {
         Lengths::EndToEnd => true,
         Lengths::Broken => false,
@@ -55,38 +56,40 @@ pub fn array_lies(s: &[u8], counted: usize, width: usize) -> bool
 }
 
 // An object's children are there, and every byte of the area is in exactly one.
-fn members_lie(s: &[u8], counted: usize, id: usize, width: usize, marks: &mut [u8]) -> bool
-    requires { ⌜ Container (now s) counted id width × (length (now s) ≤ length (now marks)) ⌝ }
+fn members_lie(readings: &[u8], s: &[u8], counted: usize, id: usize, width: usize) -> bool
+    requires { ⌜ Container (now s) counted id width × Readings (now readings) ⌝ }
     ensures { λ r. ⌜ r ≡ onceIn (length (areaOf counted id width (now (s .entry)))) (childrenAt (areaOf counted id width (now (s .entry))) (startsOf counted id width (now (s .entry)))) ⌝ }
 {
     let l = layout_of(s, counted, id, width);
     let starts = l.starts;
     let area = l.area;
-    let lie = lengths_of(&s[area..], &s[starts..], l.width, l.count);
+    let lie = lengths_of(readings, &s[area..], &s[starts..], l.width, l.count);
     match lie {
         Lengths::EndToEnd => true,
         Lengths::Broken => false,
-        Lengths::Scattered(sum) => covered(&s[area..], &s[starts..], l.width, l.count, sum, marks),
+        Lengths::Scattered(sum) => {
+            covered(readings, &s[area..], &s[starts..], l.width, l.count, sum)
+        }
     }
 }
 
 // An object's ids are below the dictionary's count, its names rise strictly, and its children lie as they must.
 pub fn object_lies(
+    readings: &[u8],
     metadata: &[u8],
     names: Names,
     s: &[u8],
     counted: usize,
     id: usize,
     width: usize,
-    marks: &mut [u8],
 ) -> bool
-    requires { ⌜ Opened (now metadata) names × Container (now s) counted id width × (1 ≤ id) × (length (now s) ≤ length (now marks)) ⌝ }
+    requires { ⌜ Opened (now metadata) names × Container (now s) counted id width × (1 ≤ id) × Readings (now readings) ⌝ }
     ensures { λ r. ⌜ r ≡ (allBelow (length (namesIn (now (metadata .entry)))) (idsOf counted id (now (s .entry))) && rising (namesAt (namesIn (now (metadata .entry))) (idsOf counted id (now (s .entry))))) && onceIn (length (areaOf counted id width (now (s .entry)))) (childrenAt (areaOf counted id width (now (s .entry))) (startsOf counted id width (now (s .entry)))) ⌝ }
 {
     let l = layout_of(s, counted, id, width);
     let ids = 1 + counted;
     if names_rise(metadata, names, &s[ids..], id, l.count) {
-        return members_lie(s, counted, id, width, marks);
+        return members_lie(readings, s, counted, id, width);
     }
     false
 }

@@ -6,10 +6,11 @@ ghost use lib.ListN.{length, drop};
 ghost use Rattle.paper.specs.Words.{at, isThere};
 ghost use Rattle.paper.specs.FirstBytes.{readingOf};
 ghost use Rattle.paper.specs.Metadata.{namesIn};
-ghost use Rattle.paper.specs.Values.{areaOf, startsOf, childrenAt, primitiveMeaning, meaningOf, whole};
+ghost use Rattle.paper.specs.Values.{areaOf, startsOf, childExtent, childrenAt, primitiveMeaning, meaningOf, whole};
 ghost use Rattle.paper.specs.declared.Reading.the-variants.{Fixed};
 ghost use Rattle.dictionary.specs.Judging.{Opened};
-ghost use Rattle.values.specs.Children.{insidesGood};
+ghost use Rattle.heads.specs.Packing.{Readings};
+ghost use Rattle.values.specs.Children.{plainBy, childGood, insidesGood};
 ghost use Rattle.values.specs.Layouts.{Container};
 use crate::children::child_extent;
 use crate::shape::array_lies;
@@ -33,18 +34,64 @@ fn primitive(code: usize, size: usize, s: &[u8]) -> bool
     s[1] <= 38
 }
 
-// The children of a container are there and lawful inside.
+// A value of this first byte has nothing inside that could break a rule: a string, binary, or a primitive that is no
+// decimal.
+fn plain(first: u8) -> bool
+    ensures { λ r. ⌜ r ≡ plainBy (readingOf first) ⌝ }
+{
+    let kind = first % 4;
+    let rest = first / 4;
+    if kind == 1 {
+        return true;
+    }
+    if kind != 0 {
+        return false;
+    }
+    if rest < 8 {
+        return true;
+    }
+    if rest <= 10 {
+        return false;
+    }
+    rest <= 20
+}
+
+// The child at a start, which has its length, is lawful inside.
+fn child(
+    levels: usize,
+    readings: &[u8],
+    metadata: &[u8],
+    names: Names,
+    area: &[u8],
+    start: usize,
+) -> bool
+    requires { ⌜ Opened (now metadata) names × Readings (now readings) × (isThere (childExtent (now area) start) ≡ true) × (length (now area) ≤ 65536) ⌝ }
+    ensures { λ r. ⌜ r ≡ childGood (meaningOf levels (namesIn (now (metadata .entry)))) (now (area .entry)) start ⌝ }
+{
+    if levels != 0 {
+        if plain(area[start]) {
+            return true;
+        }
+    }
+    let Extent::Size(size) = child_extent(readings, area, start) else {
+        return false;
+    };
+    let end = start + size;
+    value(levels, readings, metadata, names, &area[start..end])
+}
+
+// The children of a container, which have their lengths, are lawful inside.
 fn insides(
     levels: usize,
+    readings: &[u8],
     metadata: &[u8],
     names: Names,
     s: &[u8],
     counted: usize,
     id: usize,
     width: usize,
-    marks: &mut [u8],
 ) -> bool
-    requires { ⌜ Opened (now metadata) names × Container (now s) counted id width × (length (now s) ≤ length (now marks)) ⌝ }
+    requires { ⌜ Opened (now metadata) names × Readings (now readings) × Container (now s) counted id width × (isThere (childrenAt (areaOf counted id width (now s)) (startsOf counted id width (now s))) ≡ true) ⌝ }
     ensures { λ r. ⌜ r ≡ insidesGood (meaningOf levels (namesIn (now (metadata .entry)))) (areaOf counted id width (now (s .entry))) (childrenAt (areaOf counted id width (now (s .entry))) (startsOf counted id width (now (s .entry)))) ⌝ }
 {
     let l = layout_of(s, counted, id, width);
@@ -57,11 +104,7 @@ fn insides(
     let mut i = 0;
     while i < count {
         let start = numbers::read(starts, place, width);
-        let Extent::Size(size) = child_extent(area, start) else {
-            return false;
-        };
-        let end = start + size;
-        if !value(levels, metadata, names, &area[start..end], marks) {
+        if !child(levels, readings, metadata, names, area, start) {
             return false;
         }
         place += width;
@@ -70,30 +113,30 @@ fn insides(
     true
 }
 
-// Bytes that a value fills are lawful, within so many levels. `marks` is room to mark the starts of children.
-pub fn value(levels: usize, metadata: &[u8], names: Names, s: &[u8], marks: &mut [u8]) -> bool
-    requires { ⌜ Opened (now metadata) names × (whole (now s) ≡ true) × (length (now s) ≤ 65536) × (length (now s) ≤ length (now marks)) ⌝ }
+// Bytes that a value fills are lawful, within so many levels.
+pub fn value(levels: usize, readings: &[u8], metadata: &[u8], names: Names, s: &[u8]) -> bool
+    requires { ⌜ Opened (now metadata) names × Readings (now readings) × (whole (now s) ≡ true) × (length (now s) ≤ 65536) ⌝ }
     ensures { λ r. ⌜ r ≡ isThere (meaningOf levels (namesIn (now (metadata .entry))) (now (s .entry))) ⌝ }
 {
     if levels == 0 {
         return false;
     }
-    let says = heads::reading(s[0]);
+    let says = heads::reading_by(readings, s[0]);
     match says {
         Reading::Fixed { code, size } => primitive(code, size, s),
         Reading::Prefixed { code: _ } => true,
         Reading::Short { size: _ } => true,
         Reading::ObjectHead { count, id, offset } => {
-            if !object_lies(metadata, names, s, count, id, offset, marks) {
+            if !object_lies(readings, metadata, names, s, count, id, offset) {
                 return false;
             }
-            insides(levels - 1, metadata, names, s, count, id, offset, marks)
+            insides(levels - 1, readings, metadata, names, s, count, id, offset)
         }
         Reading::ArrayHead { count, offset } => {
-            if !array_lies(s, count, offset) {
+            if !array_lies(readings, s, count, offset) {
                 return false;
             }
-            insides(levels - 1, metadata, names, s, count, 0, offset, marks)
+            insides(levels - 1, readings, metadata, names, s, count, 0, offset)
         }
         Reading::Nothing => false,
     }

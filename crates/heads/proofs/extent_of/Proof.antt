@@ -10,18 +10,18 @@ use Rattle.heads.proofs.extent_of.Tie as tie
 returns : tie.Need-returns
 returns c = search (needs, empty-told)
 
-shared-slice-read-reading : tie.Need-shared-slice-read-reading
-shared-slice-read-reading c = search needs
+shared-slice-read-reading-by : tie.Need-shared-slice-read-reading-by
+shared-slice-read-reading-by c = search needs
 
-reading-requires : tie.Need-reading-requires
-reading-requires c κs = search needs
+reading-by-requires : tie.Need-reading-by-requires
+reading-by-requires c κs = search needs
 
 enum-known-says : tie.Need-enum-known-says
 enum-known-says c = search needs
 
-add-t15 : tie.Need-add-t15
-add-t15 c =
-    let told = fixed-sizes _ (sym (c .before .before .before .reading .ensures) ∙ c .before .says .given .1) in
+add-t16 : tie.Need-add-t16
+add-t16 c =
+    let told = fixed-sizes _ (sym (c .before .before .before .reading-by .ensures) ∙ c .before .says .given .1) in
     record { fits = omega arith }
 
 enum-told : tie.Need-enum-told
@@ -30,23 +30,23 @@ enum-told c = search needs
 read-requires : tie.Need-read-requires
 read-requires c κs = search needs
 
-add-t20 : tie.Need-add-t20
-add-t20 c = search needs
+add-t21 : tie.Need-add-t21
+add-t21 c = search needs
 
 enum-known-says-2 : tie.Need-enum-known-says-2
 enum-known-says-2 c = search needs
 
-add-t21 : tie.Need-add-t21
-add-t21 c =
-    let told = short-sizes _ (sym (c .before .before .before .reading .ensures) ∙ c .before .says2 .given .1) in
-    record { fits = omega (arith, c .before .before .before .before .shared-slice-known2 .given 0) }
+add-t22 : tie.Need-add-t22
+add-t22 c =
+    let told = short-sizes _ (sym (c .before .before .before .reading-by .ensures) ∙ c .before .says2 .given .1) in
+    record { fits = omega (arith, c .before .before .before .before .shared-slice-known3 .given 0) }
 
 enum-known-says-3 : tie.Need-enum-known-says-3
 enum-known-says-3 c = search needs
 
 container-extent-requires : tie.Need-container-extent-requires
 container-extent-requires c κs =
-    let told = object-sizes _ (sym (c .before .before .before .reading .ensures) ∙ c .before .says3 .given .1) in
+    let told = object-sizes _ (sym (c .before .before .before .reading-by .ensures) ∙ c .before .says3 .given .1) in
     (told .0 .0, told .0 .1, told .1 .1, told .2 .0, told .2 .1)
 
 enum-known-says-4 : tie.Need-enum-known-says-4
@@ -54,7 +54,7 @@ enum-known-says-4 c = search needs
 
 container-extent-requires-2 : tie.Need-container-extent-requires-2
 container-extent-requires-2 c κs =
-    let told = array-sizes _ (sym (c .before .before .before .reading .ensures) ∙ c .before .says4 .given .1) in
+    let told = array-sizes _ (sym (c .before .before .before .reading-by .ensures) ∙ c .before .says4 .given .1) in
     (told .0 .0, told .0 .1, omega arith, told .1 .0, told .1 .1)
 
 enum-told-2 : tie.Need-enum-told-2
@@ -86,15 +86,15 @@ extent-of-spec =
     tie.close
     (tie.spec
     returns
-    shared-slice-read-reading
-    reading-requires
+    shared-slice-read-reading-by
+    reading-by-requires
     enum-known-says
-    add-t15
+    add-t16
     enum-told
     read-requires
-    add-t20
-    enum-known-says-2
     add-t21
+    enum-known-says-2
+    add-t22
     enum-known-says-3
     container-extent-requires
     enum-known-says-4

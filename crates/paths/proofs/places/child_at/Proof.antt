@@ -1,5 +1,6 @@
 -- `child_at`: its start is read where it stands, and its length from there.
 use borrow.Author.Needs.{needs}
+use Rattle.heads.proofs.TableLaws.{readings, readings-all}
 use Rattle.paths.proofs.PlaceLaws.{child-past, child-fits, child-asks, child-lost, child-found}
 use Rattle.values.proofs.LayoutLaws.{starts-in}
 use Rattle.paths.proofs.places.child_at.Statement.{statement}
@@ -26,6 +27,9 @@ mul-read c = search (needs, child-fits)
 read-requires : tie.Need-read-requires
 read-requires c κs = child-asks _ _ _ _ (c .before .before .before .before .before .pre .0) _ (c .before .before .before .layout-of .ensures) (c .before .before .before .before .before .pre .1) _ (c .before .if1 .left)
 
+slice-aggregate-child-extent : tie.Need-slice-aggregate-child-extent
+slice-aggregate-child-extent c = search needs
+
 sub-child-extent : tie.Need-sub-child-extent
 sub-child-extent c = search needs
 
@@ -36,7 +40,8 @@ part-child-extent-end : tie.Need-part-child-extent-end
 part-child-extent-end c = search needs
 
 child-extent-requires : tie.Need-child-extent-requires
-child-extent-requires c κs = search needs
+unfolding readings
+child-extent-requires c κs = readings-all
 
 enum-known-size : tie.Need-enum-known-size
 enum-known-size c = search needs
@@ -61,6 +66,7 @@ child-at-spec =
     part-read-end
     mul-read
     read-requires
+    slice-aggregate-child-extent
     sub-child-extent
     part-child-extent-start
     part-child-extent-end

@@ -7,11 +7,11 @@ use Rattle.values.proofs.children.lengths_of.Statement.{statement}
 use Rattle.values.proofs.children.lengths_of.Tie as tie
 
 abbrev Inv-loop : tie.InvT-loop
-Inv-loop area starts width count in-order₀ from₀ sum₀ place₀ i₀ in-order from sum place i =
+Inv-loop readings area starts width count in-order₀ from₀ sum₀ place₀ i₀ in-order from sum place i =
     LengthsSeen area starts width count in-order from sum place i
 
 abbrev μ-loop : tie.MeasureT-loop
-μ-loop area starts width count in-order₀ from₀ sum₀ place₀ i₀ in-order from sum place i = count - i
+μ-loop readings area starts width count in-order₀ from₀ sum₀ place₀ i₀ in-order from sum place i = count - i
 
 loop-holds : tie.Need-loop-holds Inv-loop μ-loop
 loop-holds c = lengths-start _ _ _ _

@@ -18,8 +18,8 @@ loop-holds c = marks-start _ _ _ _
 read-requires : tie.Need-read-requires Inv-loop μ-loop
 read-requires c κs = search (needs, standing-there)
 
-slice-write-marks : tie.Need-slice-write-marks Inv-loop μ-loop
-slice-write-marks c = search (needs, mark-inside)
+set-bit-requires : tie.Need-set-bit-requires Inv-loop μ-loop
+set-bit-requires c κs = search (needs, mark-inside)
 
 add-place : tie.Need-add-place Inv-loop μ-loop
 add-place c = search (needs, standing-fits)
@@ -47,7 +47,7 @@ mark-spec =
     μ-loop
     loop-holds
     read-requires
-    slice-write-marks
+    set-bit-requires
     add-place
     add-i
     loop-less

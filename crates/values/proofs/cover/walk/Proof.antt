@@ -7,16 +7,16 @@ use Rattle.values.proofs.cover.walk.Statement.{statement}
 use Rattle.values.proofs.cover.walk.Tie as tie
 
 abbrev Inv-loop : tie.InvT-loop
-Inv-loop area marks place₀ place = WalkSeen area marks place
+Inv-loop readings area marks place₀ place = WalkSeen area marks place
 
 abbrev μ-loop : tie.MeasureT-loop
-μ-loop area marks place₀ place = length area - place
+μ-loop readings area marks place₀ place = length area - place
 
 loop-holds : tie.Need-loop-holds Inv-loop μ-loop
 loop-holds c = seen-start _ _
 
-shared-slice-read-if1 : tie.Need-shared-slice-read-if1 Inv-loop μ-loop
-shared-slice-read-if1 c = search needs
+bit-set-requires : tie.Need-bit-set-requires Inv-loop μ-loop
+bit-set-requires c κs = search needs
 
 returns : tie.Need-returns Inv-loop μ-loop
 returns c = search (needs, seen-unmarked)
@@ -52,7 +52,7 @@ walk-spec =
     Inv-loop
     μ-loop
     loop-holds
-    shared-slice-read-if1
+    bit-set-requires
     returns
     child-extent-requires
     enum-known-size

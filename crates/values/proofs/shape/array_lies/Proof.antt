@@ -27,7 +27,10 @@ part-lengths-of-end-2 : tie.Need-part-lengths-of-end-2
 part-lengths-of-end-2 c = search needs
 
 lengths-of-requires : tie.Need-lengths-of-requires
-lengths-of-requires c κs = lengths-asks _ _ _ _ (c .before .before .before .before .pre) _ (c .before .before .layout-of .ensures)
+lengths-of-requires c κs =
+    let pre = c .before .before .before .before .before .pre in
+    let asks = lengths-asks _ _ _ _ (pre .0) _ (c .before .before .layout-of .ensures) in
+    (pre .1, asks .0, asks .1, asks .2, asks .3, asks .4)
 
 enum-told : tie.Need-enum-told
 enum-told c = search needs

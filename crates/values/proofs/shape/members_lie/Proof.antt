@@ -27,7 +27,10 @@ part-lengths-of-end-2 : tie.Need-part-lengths-of-end-2
 part-lengths-of-end-2 c = search needs
 
 lengths-of-requires : tie.Need-lengths-of-requires
-lengths-of-requires c κs = lengths-asks _ _ _ _ (c .before .before .before .before .before .pre .0) _ (c .before .before .layout-of .ensures)
+lengths-of-requires c κs =
+    let pre = c .before .before .before .before .before .pre in
+    let asks = lengths-asks _ _ _ _ (pre .0) _ (c .before .before .layout-of .ensures) in
+    (pre .1, asks .0, asks .1, asks .2, asks .3, asks .4)
 
 enum-told : tie.Need-enum-told
 enum-told c = search needs
@@ -57,16 +60,17 @@ part-covered-end-2 : tie.Need-part-covered-end-2
 part-covered-end-2 c = search needs
 
 covered-requires : tie.Need-covered-requires
-covered-requires c κs = covered-asks (c .before .before .before .before .before .before .before .before .before .before .before .before .pre .0) (c .before .before .before .before .before .before .before .before .before .layout-of .ensures) _ (c .before .before .before .before .before .before .lengths-of .ensures) _ _ (search needs) (c .before .before .before .before .before .before .before .before .before .before .before .before .pre .1)
+covered-requires c κs =
+    let pre = c .before .before .before .before .before .before .before .before .before .before .before .pre in
+    let asks =
+    covered-asks (pre .0) (c .before .before .before .before .before .before .before .before .layout-of .ensures) _ (c .before .before .before .before .before .lengths-of .ensures) _ (c .before .before .before .lie .given .1) in
+    ((pre .1, asks .0 .0, asks .0 .1, asks .0 .2, asks .0 .3, asks .0 .4), asks .1)
 
 returns : tie.Need-returns
 returns c = search (needs, once-tiled)
 
 returns-2 : tie.Need-returns-2
 returns-2 c = search (needs, once-broken)
-
-same-length : tie.Need-same-length
-same-length c = search needs
 
 returns-3 : tie.Need-returns-3
 returns-3 c = search (needs, once-covered)
@@ -95,5 +99,4 @@ members-lie-spec =
     covered-requires
     returns
     returns-2
-    same-length
     returns-3)

@@ -29,9 +29,6 @@ names-rise-requires c κs =
 members-lie-requires : tie.Need-members-lie-requires
 members-lie-requires c κs = search needs
 
-same-length : tie.Need-same-length
-same-length c = search needs
-
 returns : tie.Need-returns
 returns c = search (needs, names-rise-lies)
 
@@ -49,6 +46,5 @@ object-lies-spec =
     part-names-rise-end
     names-rise-requires
     members-lie-requires
-    same-length
     returns
     returns-2)

@@ -1,20 +1,12 @@
--- `packed`: the rule of the table of readings, computed once over all entries.
+-- The table of readings: its rule, computed once over all entries.
 use mathlib.Core.List.{List, [], _∷_}
 use mathlib.Core.Path.{_≡_, refl}
-use Prim.Native.Nat.{ℕ, _<_}
-use borrow.Author.Needs.{needs}
-use lib.ListN.{getD}
-use Rattle.heads.specs.Packing.{unpack}
+use Prim.Native.Nat.{ℕ}
+use Rattle.heads.specs.Packing.{unpack, Readings}
 use Rattle.paper.specs.FirstBytes.{lengthPrefixed, payloadSizes, primitiveReading, countSize, kindReading, readingOf}
 use Rattle.heads.proofs.PackLaws.{unpackedFrom, readingsFrom, entry}
-use Rattle.heads.proofs.packed.Statement.{statement}
-use Rattle.heads.proofs.packed.Tie as tie
 
-array-read-result : tie.Need-array-read-result
-array-read-result c = search needs
-
--- The table: its entries unpack to the readings of their places.
-readings : List ℕ
+unfoldable pub readings : List ℕ
 readings =
     0 ∷ 2 ∷ 3 ∷ 4 ∷ 0 ∷ 2 ∷ 11 ∷ 12 ∷ 0 ∷ 2 ∷ 19 ∷ 20 ∷ 8 ∷ 2 ∷ 27 ∷ 28 ∷
     16 ∷ 2 ∷ 35 ∷ 36 ∷ 32 ∷ 2 ∷ 43 ∷ 44 ∷ 64 ∷ 2 ∷ 51 ∷ 52 ∷ 64 ∷ 2 ∷ 59 ∷ 60 ∷
@@ -33,13 +25,6 @@ readings =
     5 ∷ 2 ∷ 5 ∷ 5 ∷ 5 ∷ 2 ∷ 5 ∷ 5 ∷ 5 ∷ 2 ∷ 5 ∷ 5 ∷ 5 ∷ 2 ∷ 5 ∷ 5 ∷
     5 ∷ 2 ∷ 5 ∷ 5 ∷ 5 ∷ 2 ∷ 5 ∷ 5 ∷ 5 ∷ 2 ∷ 5 ∷ 5 ∷ 5 ∷ 2 ∷ 5 ∷ 5 ∷ []
 
-readings-entry : (first : ℕ) → first < 256 → unpack first (getD readings first 0) ≡ readingOf first
+pub readings-all : Readings readings
 unfolding readings unpackedFrom readingsFrom unpack readingOf kindReading countSize primitiveReading payloadSizes lengthPrefixed
-readings-entry first h = entry readings refl first h
-
-returns : tie.Need-returns
-unfolding readings
-returns c = readings-entry (c .args .first) (search needs)
-
-pub packed-spec : {M : Type 1} → statement M
-packed-spec = tie.close (tie.spec array-read-result returns)
+readings-all = record { all = refl; says = entry readings refl }
