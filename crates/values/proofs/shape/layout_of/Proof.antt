@@ -17,7 +17,7 @@ add-t8 : tie.Need-add-t8
 add-t8 c = search (needs, starts-fit)
 
 head-size-requires : tie.Need-head-size-requires
-head-size-requires c κs = head-asks _ _ _ _ (c .before .before .pre) _ (c .read .ensures .0)
+head-size-requires c κs = (head-asks _ _ _ _ (c .before .before .pre) _ (c .read .ensures .0) .0, search needs, search needs, search needs)
 
 returns : tie.Need-returns
 returns c = search (needs, laid-out)
