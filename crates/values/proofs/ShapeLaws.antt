@@ -106,7 +106,7 @@ module _ (end : ℕ) (K : Option (List Child)) where
           test true g = absurd (let z : _≡_ {A = ℕ} 0 1 = cc in omega arith)
           test false g = absurd (let z : _≡_ {A = ℕ} 0 1 = cc in omega arith)
 
-tiled-is-once : (area starts : List ℕ) → tiledIn (length area) (childrenAt area starts) ≡ true → onceIn (length area) (childrenAt area starts) ≡ true
+pub tiled-is-once : (area starts : List ℕ) → tiledIn (length area) (childrenAt area starts) ≡ true → onceIn (length area) (childrenAt area starts) ≡ true
 unfolding tiledIn onceIn SizedIn
 tiled-is-once area starts = go (childrenAt area starts) (children-sized area starts)
   where

@@ -1,0 +1,2 @@
+-- What the laws of normal form speak of.
+pub mod WellFormed

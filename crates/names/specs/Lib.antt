@@ -1,0 +1,3 @@
+-- Which names a document uses.
+
+pub mod Used
