@@ -1,0 +1,2 @@
+-- The ids of the objects inside a value, and a table that marks them.
+pub mod Ids

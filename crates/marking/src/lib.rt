@@ -1,0 +1,1 @@
+// Which names of a dictionary a value uses.
