@@ -54,16 +54,16 @@ unfolding numberBytes
 write-more l p q v w n e next h rest =
     rest ∙ rw (e, next, add-one v) (put-more l p (n % 256) (numberBytes v (n / 256)) h)
 
--- A number's bytes in two runs.
-pub write-join : (l : List ℕ) (p v w n : ℕ) {middle : List ℕ} → p + v ≤ length l → middle ≡ putAt l p (numberBytes v n)
-    → putAt middle (p + v) (numberBytes w (n / 256 ^ v)) ≡ putAt l p (numberBytes (v + w) n)
-write-join l p v w n h e =
+-- A number's bytes in two runs, the second of what is left above the first.
+pub write-join : (l : List ℕ) (p q v w k n high : ℕ) {middle after : List ℕ} → p + v ≤ length l → q ≡ p + v → k ≡ v + w → high ≡ n / 256 ^ v
+    → middle ≡ putAt l p (numberBytes v n) → after ≡ putAt middle q (numberBytes w high) → after ≡ putAt l p (numberBytes k n)
+write-join l p q v w k n high h next whole above first-run second-run =
     let first : List ℕ = numberBytes v n in
     let second : List ℕ = numberBytes w (n / 256 ^ v) in
     let size : length first ≡ v = length-number-bytes v n in
     let run : putAt (putAt l p first) (p + v) second ≡ putAt l p (first ++ second) =
     subst (λ (k : ℕ). putAt (putAt l p first) (p + k) second ≡ putAt l p (first ++ second)) size (put-run l p first second (omega arith)) in
-    rw (e, number-bytes-join) run
+    second-run ∙ rw (next, above, first-run, whole, number-bytes-join) run
 
 -- ---- a part from a place on, lent and come back with new bytes in front
 

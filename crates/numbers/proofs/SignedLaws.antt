@@ -126,6 +126,6 @@ lowest-bytes w (negsuc n) h small =
     (ap number (sym (complement-bytes 8 8 n (omega arith) (omega arith))) ∙ read-back 8 (2 ^ 64 - 1 - n) (omega arith))
     ∙ complement-bytes w 8 n h (omega arith)
 
-pub bytes-handed : (w : ℕ) (z : ℤ) {n : ℕ} (fits : SFits w64 z) → w ≤ 8 → n ≡ number (signedBytes 8 (toZ w64 (ofZ w64 z)))
-    → numberBytes w n ≡ signedBytes w z
-bytes-handed w z fits h e = rw (e, toZ-ofZ fits) (lowest-bytes w z h (fits .sfits))
+pub bytes-handed : (v w : ℕ) (z : ℤ) {n : ℕ} (fits : SFits w64 z) → w ≤ 8 → v ≡ w → n ≡ number (signedBytes 8 (toZ w64 (ofZ w64 z)))
+    → numberBytes v n ≡ signedBytes w z
+bytes-handed v w z fits h same e = rw (same, e, toZ-ofZ fits) (lowest-bytes w z h (fits .sfits))

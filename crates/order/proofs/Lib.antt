@@ -1,2 +1,3 @@
--- Laws of the order of byte strings, for the proof of `compare` and for the crates above.
+-- Laws of the order of byte strings, for the proofs of `agreed` and `compare` and for the crates above.
 pub mod OrderLaws
+pub mod AgreedLaws

@@ -1,6 +1,9 @@
 // The order of byte strings: by unsigned bytes, a prefix being smaller.
 ghost use mathlib.Core.Path.{_≡_};
+ghost use Prim.Native.Nat.{_≤_};
 ghost use Rattle.order.specs.Before.{orderOf};
+ghost use Rattle.order.specs.Agreed.{Agreed};
+use numbers::read8;
 
 // How two byte strings stand to each other.
 pub enum Order {
@@ -9,11 +12,36 @@ pub enum Order {
     Greater,
 }
 
+// The smaller of two numbers.
+fn smaller(x: usize, y: usize) -> usize
+    ensures { λ r. ⌜ (r ≤ x) × (r ≤ y) ⌝ }
+{
+    if x < y {
+        return x;
+    }
+    y
+}
+
+// A place up to which two byte strings agree, looked for eight bytes at a time.
+fn agreed(a: &[u8], b: &[u8]) -> usize
+    ensures { λ r. ⌜ Agreed (now (a .entry)) (now (b .entry)) r ⌝ }
+{
+    let end = smaller(a.len(), b.len());
+    let mut i = 0;
+    while 8 <= end - i {
+        if read8(a, i) != read8(b, i) {
+            return i;
+        }
+        i += 8;
+    }
+    i
+}
+
 // How two byte strings stand to each other.
 pub fn compare(a: &[u8], b: &[u8]) -> Order
     ensures { λ r. ⌜ r ≡ orderOf (now (a .entry)) (now (b .entry)) ⌝ }
 {
-    let mut i = 0;
+    let mut i = agreed(a, b);
     while i < a.len() {
         if b.len() <= i {
             return Order::Greater;

@@ -1,5 +1,4 @@
 -- `write8`: a number's eight bytes in two runs of four.
-use mathlib.Core.Path.{_∙_}
 use native.Mathlib.Omega.{arith}
 use borrow.Author.Needs.{needs}
 use Rattle.numbers.proofs.PutLaws.{write-join}
@@ -20,8 +19,8 @@ same-length c = search needs
 
 returns : tie.Need-returns
 returns c =
-    c .before .before .write2 .ensures
-    ∙ write-join _ _ 4 4 _ (omega arith) (c .before .before .before .before .before .before .write .ensures)
+    write-join _ _ _ 4 _ _ _ _ (omega arith) (omega arith) (omega arith) (omega arith)
+    (c .before .before .before .before .before .before .write .ensures) (c .before .before .write2 .ensures)
 
 pub write8-spec : {M : Type 1} → statement M
 write8-spec = tie.close (tie.spec write-requires add-write write-requires-2 same-length returns)

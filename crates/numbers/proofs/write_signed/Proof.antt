@@ -17,23 +17,28 @@ unsigned-requires-2 : tie.Need-unsigned-requires-2
 unsigned-requires-2 c κs = search needs
 
 write-requires : tie.Need-write-requires
-write-requires c κs = (c .before .before .before .before .pre .0, c .before .before .before .before .pre .1 .least, c .before .before .before .before .pre .1 .none-between (c .before .before .if1 .left))
+write-requires c κs =
+    let width = c .before .before .before .before .pre .1 in
+    let most = width .none-between (c .before .before .if1 .left) in
+    (omega arith, omega arith, omega arith)
 
 same-length : tie.Need-same-length
 same-length c = search needs
 
 returns : tie.Need-returns
 returns c =
+    let start = c .before .before .before .before .before .before .before in
     c .before .before .write8 .ensures
-    ∙ rw (c .before .before .before .before .before .if1 .taken) (ap (putAt _ _) (bytes-handed 8 _ (c .before .before .before .before .before .before .before .fits .z) (omega arith) (c .before .before .before .unsigned .ensures)))
+    ∙ ap (putAt _ _) (bytes-handed _ _ _ (start .fits .z) (start .pre .1 .most) (omega arith) (c .before .before .before .unsigned .ensures))
 
 same-length-2 : tie.Need-same-length-2
 same-length-2 c = search needs
 
 returns-2 : tie.Need-returns-2
 returns-2 c =
+    let start = c .before .before .before .before .before .before .before in
     c .before .before .write .ensures
-    ∙ ap (putAt _ _) (bytes-handed _ _ (c .before .before .before .before .before .before .before .fits .z) (c .before .before .before .before .before .before .before .pre .1 .most) (c .before .before .before .unsigned2 .ensures))
+    ∙ ap (putAt _ _) (bytes-handed _ _ _ (start .fits .z) (start .pre .1 .most) (omega arith) (c .before .before .before .unsigned2 .ensures))
 
 pub write-signed-spec : {M : Type 1} → statement M
 write-signed-spec =

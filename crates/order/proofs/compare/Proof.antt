@@ -1,19 +1,22 @@
 -- `compare`: the strings agree up to the place reached, and the first difference, or the end of one, decides.
-use mathlib.Core.Path.{_≡_}
-use Prim.Native.Nat.{_≤_, _-_}
+use Prim.Native.Nat.{_-_}
 use native.Mathlib.Omega.{arith}
 use borrow.Author.Needs.{needs}
-use lib.ListN.{length, drop}
-use Rattle.order.specs.Before.{orderOf}
-use Rattle.order.proofs.OrderLaws.{order-longer, order-shorter, order-ended, order-lower, order-higher, order-same}
+use lib.ListN.{length}
+use Rattle.order.specs.Agreed.{Agreed}
+use Rattle.order.proofs.OrderLaws.{order-longer, order-shorter, order-ended, order-lower, order-higher}
+use Rattle.order.proofs.AgreedLaws.{agreed-one}
 use Rattle.order.proofs.compare.Statement.{statement}
 use Rattle.order.proofs.compare.Tie as tie
 
 abbrev Inv-loop : tie.InvT-loop
-Inv-loop a b i₀ i = (i ≤ length a) × (i ≤ length b) × (orderOf a b ≡ orderOf (drop i a) (drop i b))
+Inv-loop a b i₀ i = Agreed a b i
 
 abbrev μ-loop : tie.MeasureT-loop
 μ-loop a b i₀ i = length a - i
+
+agreed-requires : tie.Need-agreed-requires Inv-loop μ-loop
+agreed-requires c κs = search needs
 
 loop-holds : tie.Need-loop-holds Inv-loop μ-loop
 loop-holds c = search needs
@@ -40,11 +43,8 @@ loop-less : tie.Need-loop-less Inv-loop μ-loop
 loop-less c = search needs
 
 loop-again : tie.Need-loop-again Inv-loop μ-loop
-loop-again c = (
-  omega arith,
-  omega arith,
-  order-same _ _ (c .before .before .before .before .before .before .loop .i) (c .before .before .before .before .before .before .loop .inv .2) (omega arith) (omega arith) (omega arith),
-)
+loop-again c =
+    agreed-one _ _ _ (c .before .before .before .before .before .before .loop .inv) (omega arith) (omega arith) (omega arith)
 
 returns-4 : tie.Need-returns-4 Inv-loop μ-loop
 returns-4 c = search (needs, order-shorter)
@@ -58,6 +58,7 @@ compare-spec =
     (tie.spec
     Inv-loop
     μ-loop
+    agreed-requires
     loop-holds
     returns
     shared-slice-read-x
