@@ -1,7 +1,9 @@
 -- The ids of the objects inside a value: an object's own, then those inside its children.
+use mathlib.Core.Bool.{Bool, false, _||_}
 use mathlib.Core.List.{List, [], _∷_, _++_}
 use mathlib.Core.Option.{Option, none, some}
 use Prim.Native.Nat.{ℕ, zero, suc}
+use lib.Dec.{eqb}
 use lib.ListN.{set}
 use Rattle.paper.specs.FirstBytes.{readingOf}
 use Rattle.paper.specs.Values.{Child, childrenAt, childBytes, areaOf, startsOf, idsOf}
@@ -37,3 +39,8 @@ idsIn (suc levels) s = idsBy (idsIn levels) (readingOf (at s 0)) s
 unfoldable pub markIds : List ℕ → List ℕ → List ℕ
 markIds used [] = used
 markIds used (id ∷ more) = markIds (set used id 1) more
+
+-- A number is among some.
+unfoldable pub holds : ℕ → List ℕ → Bool
+holds n [] = false
+holds n (first ∷ more) = eqb first n || holds n more
