@@ -65,13 +65,22 @@ pub fn shapes() -> Vec<Shape> {
         ("full flat object", flat(2_150)),
         ("small nest of objects", nested_objects(15)),
         ("full nests of objects", filled(|_| nested_objects(15))),
+        ("full string in a nest of objects", nested_string()),
         ("full dictionary of like names", alike(158)),
     ];
     for (name, doc) in with_names {
         for layout in Layout::ALL {
-            shapes.push(shape(format!("{name}{}", layout.words()), doc.clone(), layout));
+            shapes.push(shape(format!("{name}{}", layout.words()), doc.clone(), &[], layout));
         }
     }
+    for layout in Layout::ALL {
+        let name = format!("full dictionary of 4,000 names, 2,700 used{}", layout.words());
+        let unused: Vec<_> = (2_700..4_000).map(two_letters).collect();
+        shapes.push(shape(name, numbered(2_700, two_letters), &unused, layout));
+    }
+    let repeats: Vec<_> = (0..4_800).map(|number| one_letter(number % 200)).collect();
+    let name = "full dictionary of 5,000 names, 200 of them different".to_string();
+    shapes.push(shape(name, numbered(200, one_letter), &repeats, Layout::Unsorted));
     let without = [
         ("small nest of arrays", nested_arrays(15)),
         ("full nests of arrays", filled(|_| nested_arrays(15))),
@@ -82,12 +91,12 @@ pub fn shapes() -> Vec<Shape> {
         ("full array of int8", Doc::Array((0..4_090).map(int8).collect())),
         ("full array of nulls", Doc::Array(vec![Doc::Null; 5_450])),
     ];
-    shapes.extend(without.map(|(name, doc)| shape(name.to_string(), doc, Layout::Sorted)));
+    shapes.extend(without.map(|(name, doc)| shape(name.to_string(), doc, &[], Layout::Sorted)));
     shapes
 }
 
-fn shape(name: String, doc: Made, layout: Layout) -> Shape {
-    let (metadata, value) = encode(&doc, layout);
+fn shape(name: String, doc: Made, unused: &[Vec<u8>], layout: Layout) -> Shape {
+    let (metadata, value) = encode(&doc, unused, layout);
     Shape { name, doc, metadata, value }
 }
 
@@ -135,6 +144,19 @@ fn flat(count: usize) -> Made {
     object((0..count).map(field).collect())
 }
 
+fn one_letter(number: usize) -> Vec<u8> {
+    vec![number as u8]
+}
+
+fn two_letters(number: usize) -> Vec<u8> {
+    vec![(number / 256) as u8, (number % 256) as u8]
+}
+
+/// An object of so many nulls.
+fn numbered(count: usize, name: impl Fn(usize) -> Vec<u8>) -> Made {
+    object((0..count).map(|number| (name(number), Doc::Null)).collect())
+}
+
 /// Names of 100 bytes that differ in the last ones only.
 fn alike(count: usize) -> Made {
     let name = |number: usize| format!("{}{number:03}", "n".repeat(97)).into_bytes();
@@ -146,6 +168,13 @@ fn nested_objects(levels: usize) -> Made {
     (1..levels).fold(Doc::Null, |inner, level| {
         let (near, far) = (format!("level{level}"), format!("below{level}"));
         object(vec![(near.into_bytes(), int8(level)), (far.into_bytes(), inner)])
+    })
+}
+
+/// A long string inside as many objects as there may be, each with a number beside the next.
+fn nested_string() -> Made {
+    (1..limits::LEVELS).fold(text(15_500), |inner, level| {
+        object(vec![(b"far".to_vec(), inner), (b"near".to_vec(), int8(level))])
     })
 }
 
@@ -161,7 +190,7 @@ fn filled(item: impl Fn(usize) -> Made) -> Made {
     loop {
         let next = item(items.len());
         // An item has its bytes and an offset.
-        length += encode(&next, Layout::Sorted).1.len() + 2;
+        length += encode(&next, &[], Layout::Sorted).1.len() + 2;
         if length > limits::VALUE {
             return Doc::Array(items);
         }
@@ -190,12 +219,14 @@ pub fn middle(doc: &Made) -> Vec<u8> {
     }
 }
 
-/// Metadata and value of a document.
-fn encode(doc: &Made, layout: Layout) -> (Vec<u8>, Vec<u8>) {
+/// Metadata and value of a document, with further names in its dictionary.
+fn encode(doc: &Made, unused: &[Vec<u8>], layout: Layout) -> (Vec<u8>, Vec<u8>) {
     let mut names = Vec::new();
     names_used(doc, &mut names);
     names.sort();
     names.dedup();
+    names.extend_from_slice(unused);
+    names.sort();
     let mut rng = Rng::new(1);
     if !layout.is_sorted() {
         rng.shuffle(&mut names);
@@ -297,7 +328,7 @@ mod tests {
     #[test]
     fn shuffled_values_are_out_of_order() {
         let in_order = |layout| {
-            let (metadata, value) = encode(&flat(29), layout);
+            let (metadata, value) = encode(&flat(29), &[], layout);
             let normal = normal(&flat(29));
             (metadata[0] & 0x10 != 0, value == normal.value)
         };
