@@ -15,7 +15,7 @@ use Rattle.numbers.specs.Little.{numberAt}
 use Rattle.paper.specs.FirstBytes.{readingOf}
 use Rattle.paper.specs.Meaning.{boolean, payload, text, Doc, null, scalar, array, object, Docs, noDocs, doc, Fields, noFields, field}
 use Rattle.paper.specs.Metadata.{Dictionary, rising}
-use Rattle.paper.specs.Values.{Child, headSize, childrenAt, childBytes, areaOf, startsOf, idsOf, namesAt, elementsOf, membersOf, primitiveMeaning, prefixedMeaning, elementDocs, memberDocs, meaningBy, meaningOf, whole}
+use Rattle.paper.specs.Values.{Child, headSize, childBytes, areaOf, startsOf, idsOf, namesAt, elementsOf, membersOf, primitiveMeaning, prefixedMeaning, elementDocs, memberDocs, meaningBy, meaningOf, whole}
 use Rattle.paper.specs.Words.{at, same, among, allBelow, isThere}
 use Rattle.paper.specs.declared.Reading.the-variants.{Fixed, Prefixed, Short, ObjectHead, ArrayHead, Nothing}
 use Rattle.paper.specs.declared.Reading.{Reading}

@@ -1,2 +1,3 @@
--- The ids of the objects inside a value, and a table that marks them.
+-- The ids of the objects inside a value, a table that marks them, and what marking asks.
 pub mod Ids
+pub mod Marking
