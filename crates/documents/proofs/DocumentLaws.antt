@@ -112,6 +112,7 @@ pub record LawfulDocument (m v : List ℕ) (names : Names) : Type 0 where
   pub opened-is : Opened m names
   pub doc-is : Doc
   pub means : meaningOf mostLevels (namesIn m) v ≡ some doc-is
+  pub metadata-short : length m ≤ 16384
   pub short : length v ≤ 16384
   pub outcome : checkOutcome m v ≡ reached doc-is
 
@@ -139,6 +140,7 @@ lawful-document m v names e = fitted (leb (length m) 16384) (leb (length v) 1638
           opened-is = subst (Opened m) same opens;
           doc-is = d;
           means = ap (λ (x : Dictionary). meaningOf mostLevels x v) (sym those) ∙ f;
+          metadata-short = leb-true (length m) 16384 a;
           short = leb-true (length v) 16384 b;
           outcome = rw (a, b, is, f);
         }

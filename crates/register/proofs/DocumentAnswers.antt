@@ -45,12 +45,12 @@ same-refusal : {A : Type 0} {other refusal : Refusal} → _≡_ {A = Outcome Doc
 same-refusal {other = other} {refusal} e = let is : other ≡ refusal = cc in ap refused is
 
 module _ {A : Type 0} (next : Dictionary → Doc → Outcome A) (m v : List ℕ) where
-  judged-lawful : {names : Names} (l : LawfulDocument m v names)
+  pub judged-lawful : {names : Names} (l : LawfulDocument m v names)
       → unless TooLong (documentFits m v) (judged m v next) ≡ next (namesIn m) (l .doc-is)
   unfolding unless judged orElse checkOutcome
   judged-lawful l = rw (fits (documentFits m v) (judged m v λ names d. reached d) (l .outcome), opened-names (l .opened-is), l .means)
 
-  judged-refused : (refusal : Refusal) → checkOutcome m v ≡ refused refusal → unless TooLong (documentFits m v) (judged m v next) ≡ refused refusal
+  pub judged-refused : (refusal : Refusal) → checkOutcome m v ≡ refused refusal → unless TooLong (documentFits m v) (judged m v next) ≡ refused refusal
   unfolding checkOutcome unless judged orElse
   judged-refused refusal = go (documentFits m v) (dictionaryOf m)
     where
@@ -66,10 +66,10 @@ module _ {A : Type 0} (next : Dictionary → Doc → Outcome A) (m v : List ℕ)
       go true (some names) e = inner names (meaningOf mostLevels names v) e
 
 module _ (m v : List ℕ) (r : Document) (told : r ≡ documentOf m v) where
-  lawful : (names : Names) → r ≡ Lawful names → LawfulDocument m v names
+  pub lawful : (names : Names) → r ≡ Lawful names → LawfulDocument m v names
   lawful names e = lawful-document m v names (sym told ∙ e)
 
-  refused-same : (refusal : Refusal) → r ≡ Refused refusal → checkOutcome m v ≡ refused refusal
+  pub refused-same : (refusal : Refusal) → r ≡ Refused refusal → checkOutcome m v ≡ refused refusal
   unfolding documentOf documentBy
   refused-same refusal e = go (checkOutcome m v) (sym told ∙ e)
     where

@@ -5,4 +5,5 @@ pub mod BitsLaws
 pub mod BoxLaws
 pub mod CellLaws
 pub mod DocumentAnswers
+pub mod NormaliseLaws
 pub mod FoundLaws

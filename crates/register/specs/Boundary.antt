@@ -52,6 +52,12 @@ documentWord (document.Done metadata value) = word 0 1 metadata value
 documentWord (document.Short metadata value) = word 9 0 metadata value
 documentWord (document.Refused refusal) = refusedWord refusal
 
+-- Its lengths have room in the word.
+unfoldable pub documentFits : DocumentAnswer → Bool
+documentFits (document.Done metadata value) = ltb metadata (2 ^ 24) && ltb value (2 ^ 24)
+documentFits (document.Short metadata value) = ltb metadata (2 ^ 24) && ltb value (2 ^ 24)
+documentFits (document.Refused refusal) = true
+
 -- shred: the row's length, written on 0, needed on 9.
 unfoldable pub rowWord : RowAnswer → ℕ
 rowWord (row.Done length) = word 0 1 length 0

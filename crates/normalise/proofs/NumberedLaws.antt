@@ -1,0 +1,158 @@
+-- A lawful document whose names are numbered: what its value's writing asks, and what then stands in the room.
+use mathlib.Core.Bool.{true}
+use mathlib.Core.List.{List, [], _++_, append-nil}
+use mathlib.Core.Option.{Option, some, Option·some-injective as some-injective}
+use mathlib.Core.Path.{_≡_, refl, sym, ap, subst, _∙_}
+use Prim.Native.Nat.{ℕ, _+_, _-_, _*_, _≤_, _<_}
+use native.Mathlib.Nat.{mul-le-mul, mul-one}
+use native.Mathlib.Omega.{arith}
+use lib.ListN.{length, getD, take, drop, replicate, length-take, length-map, drop-of-length-le}
+use lib.Seq.{drop-at, take-all}
+use Rattle.dictionary.specs.Judging.{Opened}
+use Rattle.dictionary.specs.declared.Names.{Names}
+use Rattle.marking.specs.Ids.{idsIn, markIds, holds}
+use Rattle.naming.specs.Chosen.{chosenNames, Chosen}
+use Rattle.normalise.specs.Answered.{Lent, Numbered, Answered}
+use Rattle.paper.specs.Limits.{mostLevels}
+use Rattle.paper.specs.Meaning.{Doc}
+use Rattle.paper.specs.Metadata.{Dictionary, dictionaryOf, namesIn, offsetSize}
+use Rattle.paper.specs.Normal.{namesUsed, valueBytes, normalForm}
+use Rattle.paper.specs.Operations.{written}
+use Rattle.paper.specs.Values.{meaningOf, namesAt}
+use Rattle.paper.specs.Words.{at, among, allBelow, joined}
+use Rattle.paper.specs.declared.DocumentAnswer.{DocumentAnswer}
+use Rattle.ranking.specs.Ranks.{Ranked}
+use Rattle.writing.specs.Ends.{EndsAt}
+use Rattle.writing.specs.Written.{Right, Ready, Wrote}
+use Rattle.dictionary.proofs.DictionaryLaws.{opened-names}
+use Rattle.forms.proofs.GrowthLaws.{value-grows}
+use Rattle.forms.proofs.NamesLaws.{normal-names-there}
+use Rattle.marking.proofs.UsedIdLaws.{ids-below}
+use Rattle.names.proofs.ContainedLaws.{contained-length}
+use Rattle.names.proofs.NeverLongerLaws.{read-length, read-count}
+use Rattle.names.proofs.SameLaws.{among-at}
+use Rattle.normalise.proofs.ChosenLaws.{named, below-all, chosen-used, ranks-right}
+use Rattle.paper.proofs.WordLaws.{there-some}
+use Rattle.values.proofs.WalkLaws.{below-more}
+
+-- ---- a numbered document is ready to be written
+
+few-names : {m : List ℕ} {names : Names} {v ranks chosen : List ℕ} {count : ℕ} (n : Numbered m names v ranks chosen count) → length (namesUsed (n .d)) ≤ 16384
+unfolding namesAt
+few-names {m} {names} {v} {ranks} {chosen} {count} n =
+    let same : length (chosenNames m chosen count) ≡ length (namesUsed (n .d)) = ap length (n .used) in
+    let all : length (chosenNames m chosen count) ≡ length (take count chosen) = length-map (take count chosen) (λ (id : ℕ). getD (namesIn m) id []) in
+    let cut = length-take count chosen in
+    let few = n .choice .few in
+    omega arith
+
+pub ready : {m : List ℕ} {names : Names} {v ranks chosen : List ℕ} {count : ℕ} → Numbered m names v ranks chosen count
+    → (room : ℕ) → 2 * length v ≤ room → room ≤ 65536 → Ready mostLevels v ranks room room
+ready {m} {names} {v} {ranks} {chosen} {count} n room twice most =
+    let short = n .value-short in
+    let grows : length (valueBytes (namesUsed (n .d)) (n .d)) ≤ 2 * length v =
+    value-grows mostLevels (namesIn m) (namesUsed (n .d)) v (n .d) (n .means) (n .bytes) (omega arith) (normal-names-there (n .d))
+    (let few = few-names n in omega arith) in
+    record {
+      names = namesIn m;
+      normal = namesUsed (n .d);
+      d = n .d;
+      meant = n .means;
+      bytes = n .bytes;
+      small = omega arith;
+      ranked = n .ranked;
+      right = n .right;
+      fits = omega arith;
+      within = omega arith;
+      most = most;
+    }
+
+-- ---- what stands in the room is the normal value, so what is handed out is the answer
+
+-- New bytes that end where a buffer does are its last bytes.
+last-bytes : {new before after : List ℕ} {start : ℕ} → EndsAt new before after (length before) start → take (length before - start) (drop start after) ≡ new
+last-bytes {new} {before} {after} {start} e =
+    let size : start + length new ≡ length before = e .size in
+    let front : length (take start before) ≡ start = length-take start before ∙ (omega arith) in
+    let none : drop (length before) before ≡ [] = drop-of-length-le before {i = length before} (omega arith) in
+    let all : after ≡ take start before ++ new = e .bytes ∙ rw (none, append-nil) in
+    let rest : drop start after ≡ new = ap (drop start) all ∙ drop-at (take start before) new start front in
+    rw rest (take-all (length before - start) new (omega arith))
+
+pub write-answers : {m : List ℕ} {names : Names} {v ranks chosen : List ℕ} {count : ℕ} → Numbered m names v ranks chosen count
+    → {before after : List ℕ} {start : ℕ}
+    → ((ns normal : Dictionary) (d : Doc) → meaningOf mostLevels ns v ≡ some d → Right ns normal ranks (idsIn mostLevels v) → Wrote normal d before after (length before) start)
+    → {first first′ second second′ : List ℕ} {a : DocumentAnswer}
+    → ((d : Doc) → chosenNames m chosen count ≡ namesUsed d → take (length before - start) (drop start after) ≡ normalForm d .value
+    → Answered (written d) first first′ second second′ a)
+    → (d : Doc) → meaningOf mostLevels (namesIn m) v ≡ some d → Answered (written d) first first′ second second′ a
+unfolding normalForm
+write-answers {m} {names} {v} {ranks} {chosen} {count} n {before} {after} {start} wrote answers d means =
+    let same : n .d ≡ d = some-injective (n .d) d (sym (n .means) ∙ means) in
+    let own = wrote (namesIn m) (namesUsed (n .d)) (n .d) (n .means) (n .right) in
+    rw (← same) (answers (n .d) (n .used) (last-bytes own))
+
+-- What is among the names of ids of a dictionary is among its names.
+picked-among : (names : Dictionary) (ids : List ℕ) → allBelow (length names) ids ≡ true
+    → (name : List ℕ) → among name (namesAt names ids) ≡ true → among name names ≡ true
+picked-among names ids below name e =
+    let n = named names name ids e in
+    let inside : n .0 < length names = below-all (length names) ids (n .0) below (n .1) in
+    ap (λ (x : List ℕ). among x names) (sym (n .2)) ∙ among-at names (n .0) inside
+
+-- ---- the names of a lawful document, marked and ranked, are numbered
+
+module _ {m : List ℕ} {names : Names} {v : List ℕ} (lent : Lent m names v) where
+  read : dictionaryOf m ≡ some (namesIn m)
+  read = opened-names (lent .opened)
+
+  count-is : names .count ≡ length (namesIn m)
+  count-is = lent .opened .count ∙ read-count m (namesIn m) read
+
+  pub count-few : names .count ≤ 16384
+  unfolding offsetSize
+  count-few =
+      let all = read-length m (namesIn m) read in
+      let one : (length (namesIn m) + 1) * 1 ≤ (length (namesIn m) + 1) * offsetSize (at m 0) = mul-le-mul (omega arith) (omega arith) in
+      let same = mul-one (length (namesIn m) + 1) in
+      let short = lent .metadata-short in
+      let is = count-is in
+      omega arith
+
+  pub numbered : ((i : ℕ) → getD v i 0 < 256) → {before used : List ℕ} → used ≡ markIds before (idsIn mostLevels v) → before ≡ replicate (length before) 0
+      → names .count ≤ length before → {ranks chosen : List ℕ} {picked : ℕ} → Ranked (namesIn m) used ranks chosen picked
+      → names .count ≤ length ranks → names .count ≤ length chosen → Numbered m names v ranks chosen picked
+  numbered bytes {before} {used} marks clean room {ranks} {chosen} {picked} ranked ranks-room chosen-room =
+      let there = there-some (meaningOf mostLevels (namesIn m) v) (lent .meant) in
+      let d : Doc = there .0 in
+      let means : meaningOf mostLevels (namesIn m) v ≡ some d = there .1 in
+      let is = count-is in
+      let few = count-few in
+      let picked-few = ranked .few in
+      let marked : used ≡ markIds (replicate (length before) 0) (idsIn mostLevels v) = marks ∙ ap (λ (l : List ℕ). markIds l (idsIn mostLevels v)) clean in
+      let names-used : chosenNames m chosen picked ≡ namesUsed d =
+      chosen-used mostLevels (namesIn m) v d means (length before) (omega arith) used marked ranks chosen picked ranked in
+      record {
+        choice = record {
+          opened = lent .opened;
+          listed = omega arith;
+          few = omega arith;
+          known = rw is (ranked .within);
+          small = lent .metadata-short;
+          short = chosen-short;
+        };
+        d = d;
+        means = means;
+        used = names-used;
+        ranked = below-more (length (namesIn m)) (length ranks) (idsIn mostLevels v) (omega arith) (ids-below mostLevels (namesIn m) v d means);
+        right = ranks-right mostLevels (namesIn m) v d means (length before) (omega arith) used marked ranks chosen picked ranked;
+        bytes = bytes;
+        value-short = lent .value-short;
+      }
+    where
+      -- the names chosen are names of the dictionary, so they are no longer together
+      chosen-short : length (joined (chosenNames m chosen picked)) ≤ length m
+      chosen-short =
+          let inside = contained-length (chosenNames m chosen picked) (namesIn m) (ranked .rise) (picked-among (namesIn m) (take picked chosen) (ranked .within)) in
+          let all = read-length m (namesIn m) read in
+          omega arith

@@ -1,0 +1,1 @@
+// Normal ids for the names used.

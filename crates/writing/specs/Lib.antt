@@ -1,0 +1,4 @@
+-- What is written, and where.
+pub mod Ends
+pub mod Rewritten
+pub mod Written

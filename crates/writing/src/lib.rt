@@ -1,0 +1,1 @@
+// A value written in normal form.
