@@ -5,8 +5,6 @@ use mathlib.Core.Path.{_≡_, refl, sym, ap, _∙_}
 use Prim.Native.Nat.{ℕ, suc, _+_, _*_, _≤_, _<_}
 use native.Mathlib.Nat.{add-zero, zero-add}
 use native.Mathlib.Omega.{arith}
-use borrow.Author.Tests.{eq-eqb, eqb-true}
-use lib.Dec.{eqb}
 use lib.ListN.{length, getD, drop}
 use Rattle.numbers.specs.Little.{numberAt}
 use Rattle.order.specs.Before.{orderOf}
@@ -17,27 +15,10 @@ use Rattle.paper.specs.Values.{namesAt}
 use Rattle.paper.specs.Words.{same, numbers, allBelow}
 use Rattle.paths.specs.Places.{positionIn}
 use Rattle.dictionary.proofs.NumbersRunLaws.{run-length, below-at}
+use Rattle.names.proofs.SameLaws.{same-refl, same-is}
 use Rattle.order.proofs.OrderLaws.{order-refl, equal-same}
 use Rattle.paper.proofs.WordLaws.{never, and-both}
 use Rattle.values.proofs.RunLaws.{Standing, standing-start, standing-next, run-next, run-here, run-ended}
-
--- ---- the same bytes
-
-pub same-refl : (a : List ℕ) → same a a ≡ true
-unfolding same
-same-refl [] = refl
-same-refl (x ∷ a) = rw (eq-eqb x x refl) (same-refl a)
-
-pub same-is : (a b : List ℕ) → same a b ≡ true → a ≡ b
-unfolding same
-same-is [] [] e = refl
-same-is [] (y ∷ b) e = never (sym e)
-same-is (x ∷ a) [] e = never (sym e)
-same-is (x ∷ a) (y ∷ b) e =
-    let both = and-both (eqb x y) (same a b) e in
-    let heads : x ≡ y = eqb-true x y (both .0) in
-    let tails : a ≡ b = same-is a b (both .1) in
-    cc
 
 -- By the answer of a comparison, of a name that was looked up.
 module _ (x y : List ℕ) (a : List ℕ) (looked : a ≡ x) (r : Order) (told : r ≡ orderOf a y) where
