@@ -17,7 +17,6 @@ use Rattle.paths.specs.Places.{positionIn}
 use Rattle.dictionary.proofs.NumbersRunLaws.{run-length, below-at}
 use Rattle.names.proofs.SameLaws.{same-refl, same-is}
 use Rattle.order.proofs.OrderLaws.{order-refl, equal-same}
-use Rattle.paper.proofs.WordLaws.{never, and-both}
 use Rattle.values.proofs.RunLaws.{Standing, standing-start, standing-next, run-next, run-here, run-ended}
 
 -- By the answer of a comparison, of a name that was looked up.
