@@ -1,11 +1,9 @@
 -- The words of a cell: a float's and a double's bits come out as they were lent, a NaN's too; and no second answer.
-use mathlib.Core.Bool.{Bool, true, false, cond}
 use mathlib.Core.List.{List}
 use mathlib.Core.Path.{_≡_, refl, sym, ap, _∙_}
-use Prim.Native.Nat.{ℕ, _*_, _^_, _<_}
+use Prim.Native.Nat.{ℕ, _^_, _<_}
 use native.Mathlib.Omega.{arith}
-use lib.Ieee.Bits.{toBits-ofBits}
-use lib.Ieee.{Float, Format, top, ofBits, toBits, nanBits, binary32, binary64}
+use lib.Ieee.{binary32, binary64}
 use lib.ListN.{length, getD}
 use Rattle.numbers.specs.Little.{number}
 use Rattle.paper.specs.Cells.{numberCell}
@@ -13,27 +11,16 @@ use Rattle.paper.specs.FirstBytes.{payloadSizes, lengthPrefixed}
 use Rattle.paper.specs.Operations.{cellAnswer}
 use Rattle.paper.specs.Schemas.{columnCode}
 use Rattle.paper.specs.declared.Cell.the-variants as variants
-use Rattle.paper.specs.declared.Cell.{Cell}
 use Rattle.paper.specs.declared.CellAnswer.the-variants.{Read}
 use Rattle.paper.specs.declared.CellAnswer.{CellAnswer}
-use Rattle.register.specs.Boundary.{cellWord}
-use Rattle.register.specs.CellParts.{firstOf, firstWord, secondWord}
+use Rattle.words.specs.Boundary.{cellWord}
+use Rattle.words.specs.CellParts.{firstWord, secondWord}
 use Rattle.cells.proofs.CellLaws.{number-read}
 use Rattle.numbers.proofs.NumberLaws.{number-below}
-use Rattle.register.proofs.BitsLaws.{no-nan}
-use Rattle.register.proofs.BoundaryLaws.{one-answer}
-use denote.Floats.{passes}
+use Rattle.words.proofs.BitsLaws.{bits-kept}
+use Rattle.words.proofs.BoundaryLaws.{one-answer}
 
 -- ---- bits unchanged
-
--- Over the format, the cell of a number and that of a NaN: whatever the pattern, the first word is the pattern.
-kept : (f : Format) (held : Float → Cell) (nan : ℕ → Cell) → ((x : Float) → firstOf (held x) ≡ toBits f x) → ((n : ℕ) → firstOf (nan n) ≡ n)
-    → (n : ℕ) → n < 2 * top f → firstOf (cond (nanBits f n) (nan n) (held (ofBits f n))) ≡ n
-kept f held nan of-number of-nan n small = go (nanBits f n) refl
-  where
-    go : (is : Bool) → nanBits f n ≡ is → firstOf (cond is (nan n) (held (ofBits f n))) ≡ n
-    go true e = of-nan n
-    go false e = of-number (ofBits f n) ∙ toBits-ofBits f n small (passes _ (no-nan f n e))
 
 module _ (s : List ℕ) (bytes : (i : ℕ) → getD s i 0 < 256) where
   pub double-bits-unchanged : length s ≡ 8 → firstWord (cellAnswer 7 s) ≡ number s
@@ -42,7 +29,7 @@ module _ (s : List ℕ) (bytes : (i : ℕ) → getD s i 0 < 256) where
       let small : number s < 256 ^ 8 = number-below s 8 (omega arith) bytes in
       let read : Read (numberCell 7 s) ≡ cellAnswer 7 s =
       number-read 7 s (omega arith) refl refl (λ z. omega arith) (λ z. omega arith) (λ z. omega arith) 8 refl e refl in
-      ap firstWord (sym read) ∙ kept binary64 variants.Double variants.DoubleNan (λ x. refl) (λ n. refl) (number s) small
+      ap firstWord (sym read) ∙ bits-kept binary64 variants.Double variants.DoubleNan (λ x. refl) (λ n. refl) (number s) small
 
   pub float-bits-unchanged : length s ≡ 4 → firstWord (cellAnswer 14 s) ≡ number s
   unfolding numberCell columnCode payloadSizes lengthPrefixed
@@ -50,7 +37,7 @@ module _ (s : List ℕ) (bytes : (i : ℕ) → getD s i 0 < 256) where
       let small : number s < 256 ^ 4 = number-below s 4 (omega arith) bytes in
       let read : Read (numberCell 14 s) ≡ cellAnswer 14 s =
       number-read 14 s (omega arith) refl refl (λ z. omega arith) (λ z. omega arith) (λ z. omega arith) 4 refl e refl in
-      ap firstWord (sym read) ∙ kept binary32 variants.Float variants.FloatNan (λ x. refl) (λ n. refl) (number s) small
+      ap firstWord (sym read) ∙ bits-kept binary32 variants.Float variants.FloatNan (λ x. refl) (λ n. refl) (number s) small
 
 -- ---- no second answer
 

@@ -31,7 +31,7 @@ use Rattle.paper.specs.declared.Refusal.{Refusal}
 use Rattle.dictionary.proofs.DictionaryLaws.{opened-names}
 use Rattle.documents.proofs.DocumentLaws.{LawfulDocument, lawful-document}
 use Rattle.paper.proofs.WordLaws.{never, some-there}
-use Rattle.register.proofs.BoundaryLaws.{one-answer}
+use Rattle.words.proofs.BoundaryLaws.{one-answer}
 
 -- ---- what comes next is come to from a lawful document; another is refused as check refuses it
 

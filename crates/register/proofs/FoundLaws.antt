@@ -5,7 +5,7 @@ use mathlib.Core.Option.{Option, none, some}
 use mathlib.Core.Path.{_≡_, refl}
 use Prim.Native.Nat.{ℕ, _+_, _^_, _≤_, _<_}
 use native.Mathlib.Omega.{arith}
-use borrow.Author.Tests.{leb-true, lt-ltb, ltb-true}
+use borrow.Author.Tests.{leb-true, lt-ltb}
 use lib.Dec.{leb, ltb}
 use lib.ListN.{length}
 use Rattle.paper.specs.Limits.{mostMetadata, mostValue, mostPath, mostLevels}
@@ -18,7 +18,7 @@ use Rattle.paper.specs.Values.{Child, meaningOf}
 use Rattle.paper.specs.Words.{isThere}
 use Rattle.paper.specs.declared.Refusal.the-variants.{TooLong, BadMetadata, BadValue, BadPath}
 use Rattle.paths.specs.Places.{LawfulIn}
-use Rattle.register.specs.Boundary.{foundFits}
+use Rattle.words.specs.Boundary.{foundFits}
 use Rattle.paper.proofs.WordLaws.{and-both, some-there}
 use Rattle.paths.proofs.FindLaws.{found-inside}
 
@@ -66,9 +66,3 @@ found-fits m v p = go (documentFits m v && leb (length p) mostPath) refl (dictio
     go false e x = refl
     go true e none = refl
     go true e (some names) = inner (short e) names (meaningOf mostLevels names v) refl
-
--- What the word's function asks, of a place that was found.
-pub place-fits : (start size : ℕ) → ltb start (2 ^ 24) && ltb size (2 ^ 24) ≡ true → (start < 2 ^ 24) × (size < 2 ^ 24)
-place-fits start size e =
-    let both = and-both (ltb start (2 ^ 24)) (ltb size (2 ^ 24)) e in
-    (ltb-true start (2 ^ 24) (both .0), ltb-true size (2 ^ 24) (both .1))

@@ -1,8 +1,4 @@
--- Laws of what crosses the C boundary.
-
-pub mod BoundaryLaws
-pub mod BitsLaws
-pub mod BoxLaws
+-- Laws of what the operations answer.
 pub mod CellLaws
 pub mod DocumentAnswers
 pub mod NormaliseLaws

@@ -26,11 +26,11 @@ use Rattle.paper.specs.Values.{meaningOf}
 use Rattle.paper.specs.declared.DocumentAnswer.the-variants as document
 use Rattle.paper.specs.declared.DocumentAnswer.{DocumentAnswer}
 use Rattle.paper.specs.declared.Refusal.{Refusal}
-use Rattle.register.specs.Boundary.{documentFits}
+use Rattle.words.specs.Boundary.{documentFits}
 use Rattle.forms.proofs.NormalLaws.{Accepted, accepted, normal-shorter}
 use Rattle.numbers.proofs.PutLaws.{put-none}
 use Rattle.paper.proofs.WordLaws.{some-there}
-use Rattle.register.proofs.BoundaryLaws.{one-answer}
+use Rattle.words.proofs.BoundaryLaws.{one-answer}
 use Rattle.register.proofs.DocumentAnswers.{judged-lawful, judged-refused, lawful, refused-same}
 
 module _ (m v : List ℕ) (r : Document) (told : r ≡ documentOf m v) where

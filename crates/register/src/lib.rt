@@ -1,11 +1,9 @@
 // The register's operations, and each as a function for C (`include/tanvelis.h`). None requires anything of its caller:
 // any bytes may be lent. What an operation answers is a definition of `paper`; what crosses to C is the word of that
-// answer (`specs/Boundary.antt`), and for a cell its own words (`specs/CellParts.antt`).
+// answer, and for a box and a cell words of their own (`words/specs/`).
 ghost use mathlib.Core.Path.{_≡_};
-ghost use mathlib.Core.Bool.{true, not};
-ghost use Prim.Native.Nat.{_≤_, _<_, _^_};
-ghost use lib.Dec.{T};
-ghost use lib.Ieee.{isNan, toBits, binary32, binary64};
+ghost use mathlib.Core.Bool.{true};
+ghost use Prim.Native.Nat.{_≤_};
 ghost use lib.ListN.{length};
 ghost use Rattle.dictionary.specs.Judging.{Opened};
 ghost use Rattle.paper.specs.Limits.{mostLevels};
@@ -14,37 +12,18 @@ ghost use Rattle.paper.specs.Operations.{checkAnswer, findAnswer, foundBy, cell
 ghost use Rattle.paper.specs.Paths.{pathOf, findFrom};
 ghost use Rattle.paper.specs.Refusals.{orElse, reached};
 ghost use Rattle.paper.specs.Values.{meaningOf};
-ghost use Rattle.paper.specs.Words.{oneIf, isThere};
-ghost use Rattle.register.specs.Boundary.{word, refusedWord, checkedWord, foundWord, foundFits, cellWord, boxWord};
-ghost use Rattle.register.specs.BoxParts.{sideOf, sideWord, sideHasBits};
-ghost use Rattle.register.specs.CellParts.{cellKind, firstOf, secondOf, firstWord, secondWord, hasBits, answerHasBits};
+ghost use Rattle.paper.specs.Words.{isThere};
+ghost use Rattle.words.specs.Boundary.{checkedWord, foundWord, cellWord, boxWord};
+ghost use Rattle.words.specs.BoxParts.{sideWord};
+ghost use Rattle.words.specs.CellParts.{firstWord, secondWord};
 use dictionary::Names;
 use documents::Document;
 use paper::BoxAnswer;
-use paper::Cell;
 use paper::CellAnswer;
 use paper::Checked;
 use paper::Found;
-use paper::LotBox;
 use paper::Refusal;
-
-// ---- words
-
-// The parts of an answer in one word: the number, whether it is present, and two lengths or values of 24 bits.
-fn word(number: u8, present: bool, first: usize, second: usize) -> u64
-    requires { ⌜ (first < 2 ^ 24) × (second < 2 ^ 24) ⌝ }
-    ensures { λ r. ⌜ r ≡ word number (oneIf present) first second ⌝ }
-{
-    let low = number as u64 + 256 * (present as u64);
-    low + 65536 * (first as u64) + 1099511627776 * (second as u64)
-}
-
-// A refusal carries its number and zeros.
-fn refused_word(refusal: Refusal) -> u64
-    ensures { λ r. ⌜ r ≡ refusedWord refusal ⌝ }
-{
-    word(paper::number(refusal), false, 0, 0)
-}
+use words::Side;
 
 // ---- check
 
@@ -59,20 +38,11 @@ pub fn check(metadata: &[u8], value: &[u8]) -> Checked
     }
 }
 
-fn checked_word(answer: Checked) -> u64
-    ensures { λ r. ⌜ r ≡ checkedWord answer ⌝ }
-{
-    match answer {
-        Checked::Good => word(0, true, 0, 0),
-        Checked::Refused(refusal) => refused_word(refusal),
-    }
-}
-
 #[no_mangle]
 pub extern "C" fn tanvelis_check(metadata: &[u8], value: &[u8]) -> u64
     ensures { λ r. ⌜ r ≡ checkedWord (checkAnswer (now (metadata .entry)) (now (value .entry))) ⌝ }
 {
-    checked_word(check(metadata, value))
+    words::checked_word(check(metadata, value))
 }
 
 // ---- find
@@ -102,22 +72,11 @@ pub fn find(metadata: &[u8], value: &[u8], path: &[u8]) -> Found
     }
 }
 
-fn found_word(answer: Found) -> u64
-    requires { ⌜ foundFits answer ≡ true ⌝ }
-    ensures { λ r. ⌜ r ≡ foundWord answer ⌝ }
-{
-    match answer {
-        Found::At { start, length } => word(0, true, start, length),
-        Found::Absent => word(0, false, 0, 0),
-        Found::Refused(refusal) => refused_word(refusal),
-    }
-}
-
 #[no_mangle]
 pub extern "C" fn tanvelis_find(metadata: &[u8], value: &[u8], path: &[u8]) -> u64
     ensures { λ r. ⌜ r ≡ foundWord (findAnswer (now (metadata .entry)) (now (value .entry)) (now (path .entry))) ⌝ }
 {
-    found_word(find(metadata, value, path))
+    words::found_word(find(metadata, value, path))
 }
 
 // ---- a lot's box
@@ -133,88 +92,39 @@ pub fn lot_box(metadata: &[u8], value: &[u8]) -> BoxAnswer
     }
 }
 
-fn box_word(answer: BoxAnswer) -> u64
-    ensures { λ r. ⌜ r ≡ boxWord answer ⌝ }
-{
-    match answer {
-        BoxAnswer::Read(_) => word(0, true, 0, 0),
-        BoxAnswer::Absent => word(0, false, 0, 0),
-        BoxAnswer::Refused(refusal) => refused_word(refusal),
-    }
-}
-
 #[no_mangle]
 pub extern "C" fn tanvelis_box(metadata: &[u8], value: &[u8]) -> u64
     ensures { λ r. ⌜ r ≡ boxWord (boxAnswer (now (metadata .entry)) (now (value .entry))) ⌝ }
 {
-    box_word(lot_box(metadata, value))
-}
-
-// A side of a box.
-pub enum Side {
-    East,
-    North,
-    South,
-    West,
-}
-
-fn side_of(side: Side, read: LotBox) -> f64
-    ensures { λ r. ⌜ r ≡ sideOf side read ⌝ }
-{
-    match side {
-        Side::East => read.east,
-        Side::North => read.north,
-        Side::South => read.south,
-        Side::West => read.west,
-    }
-}
-
-// A double's bits.
-fn double_bits(x: f64) -> u64
-    requires { ⌜ T (not (isNan x)) ⌝ }
-    ensures { λ r. ⌜ r ≡ toBits binary64 x ⌝ }
-{
-    f64::to_bits(x)
-}
-
-// The bits of a side of the box that was read, 0 where there is none.
-fn side_word(side: Side, answer: BoxAnswer) -> u64
-    requires { ⌜ sideHasBits side answer ≡ true ⌝ }
-    ensures { λ r. ⌜ r ≡ sideWord side answer ⌝ }
-{
-    match answer {
-        BoxAnswer::Read(read) => double_bits(side_of(side, read)),
-        BoxAnswer::Absent => 0,
-        BoxAnswer::Refused(_) => 0,
-    }
+    words::box_word(lot_box(metadata, value))
 }
 
 #[no_mangle]
 pub extern "C" fn tanvelis_box_east(metadata: &[u8], value: &[u8]) -> u64
     ensures { λ r. ⌜ r ≡ sideWord Side.East (boxAnswer (now (metadata .entry)) (now (value .entry))) ⌝ }
 {
-    side_word(Side::East, lot_box(metadata, value))
+    words::side_word(Side::East, lot_box(metadata, value))
 }
 
 #[no_mangle]
 pub extern "C" fn tanvelis_box_north(metadata: &[u8], value: &[u8]) -> u64
     ensures { λ r. ⌜ r ≡ sideWord Side.North (boxAnswer (now (metadata .entry)) (now (value .entry))) ⌝ }
 {
-    side_word(Side::North, lot_box(metadata, value))
+    words::side_word(Side::North, lot_box(metadata, value))
 }
 
 #[no_mangle]
 pub extern "C" fn tanvelis_box_south(metadata: &[u8], value: &[u8]) -> u64
     ensures { λ r. ⌜ r ≡ sideWord Side.South (boxAnswer (now (metadata .entry)) (now (value .entry))) ⌝ }
 {
-    side_word(Side::South, lot_box(metadata, value))
+    words::side_word(Side::South, lot_box(metadata, value))
 }
 
 #[no_mangle]
 pub extern "C" fn tanvelis_box_west(metadata: &[u8], value: &[u8]) -> u64
     ensures { λ r. ⌜ r ≡ sideWord Side.West (boxAnswer (now (metadata .entry)) (now (value .entry))) ⌝ }
 {
-    side_word(Side::West, lot_box(metadata, value))
+    words::side_word(Side::West, lot_box(metadata, value))
 }
 
 // ---- one typed cell
@@ -226,103 +136,12 @@ pub fn cell(code: u8, bytes: &[u8]) -> CellAnswer
     cells::cell(code, bytes)
 }
 
-// The kind of a cell, 1 to 6.
-fn kind_of(cell: Cell) -> usize
-    ensures { λ r. ⌜ (r ≡ cellKind cell) × (r < 7) ⌝ }
-{
-    match cell {
-        Cell::Boolean(_) => 1,
-        Cell::Integer(_) => 2,
-        Cell::Float(_) => 3,
-        Cell::FloatNan(_) => 3,
-        Cell::Double(_) => 4,
-        Cell::DoubleNan(_) => 4,
-        Cell::Length(_) => 5,
-        Cell::Uuid {
-            first: _,
-            second: _,
-        } => 6,
-    }
-}
-
-// A float's bits.
-fn float_bits(x: f32) -> u32
-    requires { ⌜ T (not (isNan x)) ⌝ }
-    ensures { λ r. ⌜ r ≡ toBits binary32 x ⌝ }
-{
-    f32::to_bits(x)
-}
-
-// The first word of a cell.
-fn first_of(cell: Cell) -> u64
-    requires { ⌜ hasBits cell ≡ true ⌝ }
-    ensures { λ r. ⌜ r ≡ firstOf cell ⌝ }
-{
-    match cell {
-        Cell::Boolean(yes) => yes as u64,
-        Cell::Integer(z) => numbers::unsigned(z),
-        Cell::Float(x) => float_bits(x) as u64,
-        Cell::FloatNan(bits) => bits as u64,
-        Cell::Double(x) => f64::to_bits(x),
-        Cell::DoubleNan(bits) => bits,
-        Cell::Length(length) => length as u64,
-        Cell::Uuid { first, second: _ } => first,
-    }
-}
-
-// The second word of a cell.
-fn second_of(cell: Cell) -> u64
-    ensures { λ r. ⌜ r ≡ secondOf cell ⌝ }
-{
-    match cell {
-        Cell::Boolean(_) => 0,
-        Cell::Integer(_) => 0,
-        Cell::Float(_) => 0,
-        Cell::FloatNan(_) => 0,
-        Cell::Double(_) => 0,
-        Cell::DoubleNan(_) => 0,
-        Cell::Length(_) => 0,
-        Cell::Uuid { first: _, second } => second,
-    }
-}
-
-// The answer's word: present with the kind, or the refusal.
-fn cell_word(answer: CellAnswer) -> u64
-    ensures { λ r. ⌜ r ≡ cellWord answer ⌝ }
-{
-    match answer {
-        CellAnswer::Read(held) => word(0, true, kind_of(held), 0),
-        CellAnswer::Refused(refusal) => refused_word(refusal),
-    }
-}
-
-// The first word of the cell that was read, 0 on a refusal.
-fn first_word(answer: CellAnswer) -> u64
-    requires { ⌜ answerHasBits answer ≡ true ⌝ }
-    ensures { λ r. ⌜ r ≡ firstWord answer ⌝ }
-{
-    match answer {
-        CellAnswer::Read(held) => first_of(held),
-        CellAnswer::Refused(_) => 0,
-    }
-}
-
-// The second word of the cell that was read, 0 on a refusal.
-fn second_word(answer: CellAnswer) -> u64
-    ensures { λ r. ⌜ r ≡ secondWord answer ⌝ }
-{
-    match answer {
-        CellAnswer::Read(held) => second_of(held),
-        CellAnswer::Refused(_) => 0,
-    }
-}
-
 // For C: whether it was read, and the kind; or the refusal's number.
 #[no_mangle]
 pub extern "C" fn tanvelis_cell(code: u8, bytes: &[u8]) -> u64
     ensures { λ r. ⌜ r ≡ cellWord (cellAnswer code (now (bytes .entry))) ⌝ }
 {
-    cell_word(cell(code, bytes))
+    words::cell_word(cell(code, bytes))
 }
 
 // For C: the first word of what the cell holds.
@@ -330,7 +149,7 @@ pub extern "C" fn tanvelis_cell(code: u8, bytes: &[u8]) -> u64
 pub extern "C" fn tanvelis_cell_first(code: u8, bytes: &[u8]) -> u64
     ensures { λ r. ⌜ r ≡ firstWord (cellAnswer code (now (bytes .entry))) ⌝ }
 {
-    first_word(cell(code, bytes))
+    words::first_word(cell(code, bytes))
 }
 
 // For C: the second word of what the cell holds.
@@ -338,5 +157,5 @@ pub extern "C" fn tanvelis_cell_first(code: u8, bytes: &[u8]) -> u64
 pub extern "C" fn tanvelis_cell_second(code: u8, bytes: &[u8]) -> u64
     ensures { λ r. ⌜ r ≡ secondWord (cellAnswer code (now (bytes .entry))) ⌝ }
 {
-    second_word(cell(code, bytes))
+    words::second_word(cell(code, bytes))
 }

@@ -1,7 +1,7 @@
 -- `tanvelis_box`: the word of what `lot_box` answers.
 use mathlib.Core.Path.{ap, _∙_}
 use borrow.Author.Needs.{needs}
-use Rattle.register.specs.Boundary.{boxWord}
+use Rattle.words.specs.Boundary.{boxWord}
 use Rattle.register.proofs.tanvelis_box.Statement.{statement}
 use Rattle.register.proofs.tanvelis_box.Tie as tie
 

@@ -1,9 +1,9 @@
 -- `tanvelis_box_west`: the side of what `lot_box` answers, which is no NaN.
 use mathlib.Core.Path.{ap, _∙_}
 use borrow.Author.Needs.{needs}
-use Rattle.register.specs.BoxParts.{sideWord, sideHasBits}
-use Rattle.register.specs.declared.Side.the-variants.{West}
-use Rattle.register.proofs.BoxLaws.{side-has-bits}
+use Rattle.words.specs.BoxParts.{sideWord, sideHasBits}
+use Rattle.words.specs.declared.boxes.Side.the-variants.{West}
+use Rattle.words.proofs.BoxLaws.{side-has-bits}
 use Rattle.register.proofs.tanvelis_box_west.Statement.{statement}
 use Rattle.register.proofs.tanvelis_box_west.Tie as tie
 

@@ -1,7 +1,7 @@
 -- `tanvelis_cell`: the word of what `cell` answers.
 use mathlib.Core.Path.{ap, _∙_}
 use borrow.Author.Needs.{needs}
-use Rattle.register.specs.Boundary.{cellWord}
+use Rattle.words.specs.Boundary.{cellWord}
 use Rattle.register.proofs.tanvelis_cell.Statement.{statement}
 use Rattle.register.proofs.tanvelis_cell.Tie as tie
 

@@ -1,8 +1,8 @@
 -- `tanvelis_cell_first`: the first word of what `cell` answers, which is never a NaN taken for a number.
 use mathlib.Core.Path.{ap, _∙_}
 use borrow.Author.Needs.{needs}
-use Rattle.register.specs.CellParts.{firstWord, answerHasBits}
-use Rattle.register.proofs.BitsLaws.{answer-has-bits}
+use Rattle.words.specs.CellParts.{firstWord, answerHasBits}
+use Rattle.words.proofs.BitsLaws.{answer-has-bits}
 use Rattle.register.proofs.tanvelis_cell_first.Statement.{statement}
 use Rattle.register.proofs.tanvelis_cell_first.Tie as tie
 

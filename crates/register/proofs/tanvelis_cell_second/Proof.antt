@@ -1,7 +1,7 @@
 -- `tanvelis_cell_second`: the second word of what `cell` answers.
 use mathlib.Core.Path.{ap, _∙_}
 use borrow.Author.Needs.{needs}
-use Rattle.register.specs.CellParts.{secondWord}
+use Rattle.words.specs.CellParts.{secondWord}
 use Rattle.register.proofs.tanvelis_cell_second.Statement.{statement}
 use Rattle.register.proofs.tanvelis_cell_second.Tie as tie
 

@@ -1,7 +1,7 @@
 -- `tanvelis_check`: the word of what `check` answers.
 use mathlib.Core.Path.{ap, _∙_}
 use borrow.Author.Needs.{needs}
-use Rattle.register.specs.Boundary.{checkedWord}
+use Rattle.words.specs.Boundary.{checkedWord}
 use Rattle.register.proofs.tanvelis_check.Statement.{statement}
 use Rattle.register.proofs.tanvelis_check.Tie as tie
 

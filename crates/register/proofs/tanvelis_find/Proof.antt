@@ -1,7 +1,7 @@
 -- `tanvelis_find`: the word of what `find` answers, which lies inside the value.
 use mathlib.Core.Path.{ap, _∙_}
 use borrow.Author.Needs.{needs}
-use Rattle.register.specs.Boundary.{foundWord, foundFits}
+use Rattle.words.specs.Boundary.{foundWord, foundFits}
 use Rattle.register.proofs.FoundLaws.{found-fits}
 use Rattle.register.proofs.tanvelis_find.Statement.{statement}
 use Rattle.register.proofs.tanvelis_find.Tie as tie

@@ -1,0 +1,82 @@
+-- A box that was read has no NaN for a side, since a NaN is in no order: the bits of each side can be had.
+use mathlib.Core.Bool.{Bool, true, false, not, _&&_}
+use mathlib.Core.List.{List}
+use mathlib.Core.Option.{Option, none, some}
+use mathlib.Core.Path.{_≡_, refl, sym}
+use Prim.Native.Nat.{ℕ}
+use lib.Ieee.{Float, nan, inf, fin, le, lt, eq, isNan}
+use Rattle.paper.specs.Boxes.{boxIn, boxOf, side as sideIn, east, north, south, west}
+use Rattle.paper.specs.Limits.{mostLevels}
+use Rattle.paper.specs.Meaning.{Doc, null, scalar, array, object}
+use Rattle.paper.specs.Metadata.{Dictionary, dictionaryOf}
+use Rattle.paper.specs.Operations.{judged, documentFits, boxOutcome, boxReadBy, boxAnswer}
+use Rattle.paper.specs.Refusals.{reached, unless, orElse}
+use Rattle.paper.specs.Values.{meaningOf}
+use Rattle.paper.specs.Words.{given, andThen}
+use Rattle.paper.specs.declared.LotBox.{LotBox}
+use Rattle.paper.specs.declared.Refusal.the-variants.{TooLong, BadMetadata, BadValue}
+use Rattle.words.specs.BoxParts.{sideOf, sideHasBits}
+use Rattle.words.specs.declared.boxes.Side.the-variants.{East, North, South, West}
+use Rattle.words.specs.declared.boxes.Side.{Side}
+use Rattle.paper.proofs.WordLaws.{never, and-both}
+
+-- What is in order is no NaN.
+in-order : (x y : Float) → le x y ≡ true → (not (isNan x) ≡ true) × (not (isNan y) ≡ true)
+unfolding le lt eq isNan
+in-order nan y e = never (sym e)
+in-order (inf s) nan e = never (sym e)
+in-order (inf s) (inf t) e = (refl, refl)
+in-order (inf s) (fin t n d) e = (refl, refl)
+in-order (fin s m d) nan e = never (sym e)
+in-order (fin s m d) (inf t) e = (refl, refl)
+in-order (fin s m d) (fin t n f) e = (refl, refl)
+
+module _ (side : Side) where
+  of-four : (e n s w : Float) → sideHasBits side (boxReadBy (reached (given (le w e && le s n) (some (record { east = e; north = n; south = s; west = w }))))) ≡ true
+  unfolding given boxReadBy
+  of-four e n s w = go (le w e && le s n) refl
+    where
+      number : (side : Side) → not (isNan e) ≡ true → not (isNan n) ≡ true → not (isNan s) ≡ true → not (isNan w) ≡ true
+          → not (isNan (sideOf side (record { east = e; north = n; south = s; west = w }))) ≡ true
+      number East p q r t = p
+      number North p q r t = q
+      number South p q r t = r
+      number West p q r t = t
+
+      go : (b : Bool) → le w e && le s n ≡ b
+          → sideHasBits side (boxReadBy (reached (given b (some (record { east = e; north = n; south = s; west = w }))))) ≡ true
+      go false is = refl
+      go true is =
+          let both = and-both (le w e) (le s n) is in
+          let across = in-order w e (both .0) in
+          let along = in-order s n (both .1) in
+          number side (across .1) (along .1) (along .0) (across .0)
+
+  -- Where nothing is to be read on the way there is no box.
+  on : {A : Type 0} (x : Option A) (next : A → Option LotBox) → ((a : A) → sideHasBits side (boxReadBy (reached (next a))) ≡ true)
+      → sideHasBits side (boxReadBy (reached (andThen x next))) ≡ true
+  unfolding andThen boxReadBy
+  on none next good = refl
+  on (some a) next good = good a
+
+  of-doc : (d : Doc) → sideHasBits side (boxReadBy (reached (boxOf d))) ≡ true
+  unfolding boxOf boxIn boxReadBy
+  of-doc null = refl
+  of-doc (scalar s) = refl
+  of-doc (array ds) = refl
+  of-doc (object fs) =
+      on (sideIn east fs) _ λ e. on (sideIn north fs) _ λ n. on (sideIn south fs) _ λ s. on (sideIn west fs) _ λ w. of-four e n s w
+
+  pub side-has-bits : (m v : List ℕ) → sideHasBits side (boxAnswer m v) ≡ true
+  unfolding boxAnswer boxOutcome judged unless orElse boxReadBy
+  side-has-bits m v = go (documentFits m v) (dictionaryOf m)
+    where
+      inner : (x : Option Doc) → sideHasBits side (boxReadBy (orElse BadValue x λ d. reached (boxOf d))) ≡ true
+      inner none = refl
+      inner (some d) = of-doc d
+
+      go : (b : Bool) (x : Option Dictionary)
+          → sideHasBits side (boxReadBy (unless TooLong b (orElse BadMetadata x λ names. orElse BadValue (meaningOf mostLevels names v) λ d. reached (boxOf d)))) ≡ true
+      go false x = refl
+      go true none = refl
+      go true (some names) = inner (meaningOf mostLevels names v)
