@@ -16,8 +16,7 @@ fn total_of(metadata: &[u8], names: Names, chosen: &[u16], count: usize) -> usiz
     let mut total = 0;
     let mut i = 0;
     while i < count {
-        let name = dictionary::name(metadata, names, chosen[i] as usize);
-        total += name.len();
+        total += dictionary::name(metadata, names, chosen[i] as usize).len();
         i += 1;
     }
     total
@@ -61,8 +60,7 @@ fn write_offsets(
     let mut i = 0;
     while i < count {
         numbers::write(out, at, width, total);
-        let name = dictionary::name(metadata, names, chosen[i] as usize);
-        total += name.len();
+        total += dictionary::name(metadata, names, chosen[i] as usize).len();
         at += width;
         i += 1;
     }

@@ -1,5 +1,6 @@
 -- `write_names`: the names that are left, put behind those that are written, make all.
 use Prim.Native.Nat.{_-_}
+use native.Mathlib.Omega.{arith}
 use borrow.Author.Needs.{needs}
 use Rattle.naming.proofs.ChosenLaws.{id-known, id-fits}
 use Rattle.naming.proofs.LoopLaws.{NamesPut, names-start, name-room, names-on, names-done}
@@ -22,10 +23,12 @@ shared-slice-read-name : tie.Need-shared-slice-read-name Inv-loop μ-loop
 shared-slice-read-name c = search needs
 
 cast-name : tie.Need-cast-name Inv-loop μ-loop
-cast-name c = search (needs, id-fits)
+cast-name c = id-fits (c .before .before .before .before .before .before .pre .0) _ (omega arith)
 
 name-requires : tie.Need-name-requires Inv-loop μ-loop
-name-requires c κs = search (needs, id-known)
+name-requires c κs =
+    let pre = c .before .before .before .before .before .before .pre .0 in
+    (pre .opened, id-known pre _ (omega arith))
 
 put-requires : tie.Need-put-requires Inv-loop μ-loop
 put-requires c κs = search (needs, name-room)
