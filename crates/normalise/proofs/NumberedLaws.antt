@@ -11,6 +11,7 @@ use lib.Seq.{drop-at, take-all}
 use Rattle.dictionary.specs.Judging.{Opened}
 use Rattle.dictionary.specs.declared.Names.{Names}
 use Rattle.marking.specs.Ids.{idsIn, markIds, holds}
+use Rattle.marking.specs.Marking.{Markable}
 use Rattle.naming.specs.Chosen.{chosenNames, Chosen}
 use Rattle.normalise.specs.Answered.{Lent, Numbered, Answered}
 use Rattle.paper.specs.Limits.{mostLevels}
@@ -79,6 +80,16 @@ last-bytes {new} {before} {after} {start} e =
     let rest : drop start after ≡ new = ap (drop start) all ∙ drop-at (take start before) new start front in
     rw rest (take-all (length before - start) new (omega arith))
 
+-- It starts inside.
+pub write-starts : {m : List ℕ} {names : Names} {v ranks chosen : List ℕ} {count : ℕ} → Numbered m names v ranks chosen count
+    → {before after : List ℕ} {end start : ℕ}
+    → ((ns normal : Dictionary) (d : Doc) → meaningOf mostLevels ns v ≡ some d → Right ns normal ranks (idsIn mostLevels v) → Wrote normal d before after end start)
+    → start ≤ end
+write-starts {m} n wrote =
+    let own = wrote (namesIn m) (namesUsed (n .d)) (n .d) (n .means) (n .right) in
+    let size = own .size in
+    omega arith
+
 pub write-answers : {m : List ℕ} {names : Names} {v ranks chosen : List ℕ} {count : ℕ} → Numbered m names v ranks chosen count
     → {before after : List ℕ} {start : ℕ}
     → ((ns normal : Dictionary) (d : Doc) → meaningOf mostLevels ns v ≡ some d → Right ns normal ranks (idsIn mostLevels v) → Wrote normal d before after (length before) start)
@@ -108,6 +119,13 @@ module _ {m : List ℕ} {names : Names} {v : List ℕ} (lent : Lent m names v) w
 
   count-is : names .count ≡ length (namesIn m)
   count-is = lent .opened .count ∙ read-count m (namesIn m) read
+
+  -- what the marking asks, of a table that has an entry for each name
+  pub markable : (size : ℕ) → names .count ≤ size → Markable mostLevels v size
+  markable size room =
+      let short = lent .value-short in
+      let is = count-is in
+      record { names = namesIn m; meant = lent .meant; room = omega arith; small = omega arith }
 
   pub count-few : names .count ≤ 16384
   unfolding offsetSize

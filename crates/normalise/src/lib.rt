@@ -22,7 +22,7 @@ use paper::Refusal;
 
 // Hands out a value in normal form, and the metadata of the chosen names, if the value is not too large and both buffers
 // have room.
-pub fn hand_out(
+fn hand_out(
     metadata: &[u8],
     names: Names,
     chosen: &[u16],
@@ -56,4 +56,179 @@ pub fn hand_out(
         metadata: size,
         value: value.len(),
     }
+}
+
+// Writes the value at the end of a room that is twice as long, and hands it out.
+fn write_out(
+    readings: &[u8],
+    metadata: &[u8],
+    names: Names,
+    value: &[u8],
+    ranks: &[u16],
+    chosen: &[u16],
+    count: usize,
+    room: &mut [u8],
+    metadata_out: &mut [u8],
+    value_out: &mut [u8],
+) -> DocumentAnswer
+    requires { ⌜ Readings (now readings) × Numbered (now metadata) names (now value) (now ranks) (now chosen) count × (2 * length (now value) ≤ length (now room)) × (length (now room) ≤ 65536) ⌝ }
+    ensures { λ r. ⌜ ((d : Doc) → meaningOf mostLevels (namesIn (now (metadata .entry))) (now (value .entry)) ≡ some d → Answered (written d) (now («metadata_out» .entry)) (now («metadata_out» .exit)) (now («value_out» .entry)) (now («value_out» .exit)) r) ⌝ }
+{
+    let end = room.len();
+    let start = writing::value(paper::MOST_LEVELS, readings, ranks, value, room, end);
+    hand_out(
+        metadata,
+        names,
+        chosen,
+        count,
+        &room[start..end],
+        metadata_out,
+        value_out,
+    )
+}
+
+// With the names numbered: lays out the room for the value, by its length.
+fn with_room(
+    readings: &[u8],
+    metadata: &[u8],
+    names: Names,
+    value: &[u8],
+    ranks: &[u16],
+    chosen: &[u16],
+    count: usize,
+    metadata_out: &mut [u8],
+    value_out: &mut [u8],
+) -> DocumentAnswer
+    requires { ⌜ Readings (now readings) × Numbered (now metadata) names (now value) (now ranks) (now chosen) count × (length (now value) ≤ 16384) ⌝ }
+    ensures { λ r. ⌜ ((d : Doc) → meaningOf mostLevels (namesIn (now (metadata .entry))) (now (value .entry)) ≡ some d → Answered (written d) (now («metadata_out» .entry)) (now («metadata_out» .exit)) (now («value_out» .entry)) (now («value_out» .exit)) r) ⌝ }
+{
+    if value.len() <= 256 {
+        let mut room = [0u8; 512];
+        return write_out(
+            readings,
+            metadata,
+            names,
+            value,
+            ranks,
+            chosen,
+            count,
+            &mut room,
+            metadata_out,
+            value_out,
+        );
+    }
+    if value.len() <= 2048 {
+        let mut room = [0u8; 4096];
+        return write_out(
+            readings,
+            metadata,
+            names,
+            value,
+            ranks,
+            chosen,
+            count,
+            &mut room,
+            metadata_out,
+            value_out,
+        );
+    }
+    let mut room = [0u8; 32768];
+    write_out(
+        readings,
+        metadata,
+        names,
+        value,
+        ranks,
+        chosen,
+        count,
+        &mut room,
+        metadata_out,
+        value_out,
+    )
+}
+
+// Numbers the names that the value uses, in tables that have an entry for each name of the dictionary.
+fn with_tables(
+    metadata: &[u8],
+    names: Names,
+    value: &[u8],
+    used: &mut [u8],
+    ranks: &mut [u16],
+    chosen: &mut [u16],
+    metadata_out: &mut [u8],
+    value_out: &mut [u8],
+) -> DocumentAnswer
+    requires { ⌜ Lent (now metadata) names (now value) × (names .count ≤ length (now used)) × (names .count ≤ length (now ranks)) × (names .count ≤ length (now chosen)) × (now used ≡ replicate (length (now used)) 0) ⌝ }
+    ensures { λ r. ⌜ ((d : Doc) → meaningOf mostLevels (namesIn (now (metadata .entry))) (now (value .entry)) ≡ some d → Answered (written d) (now («metadata_out» .entry)) (now («metadata_out» .exit)) (now («value_out» .entry)) (now («value_out» .exit)) r) ⌝ }
+{
+    let readings = heads::READINGS;
+    marking::mark(paper::MOST_LEVELS, &readings, value, used);
+    let count = ranking::rank(metadata, names, used, ranks, chosen);
+    with_room(
+        &readings,
+        metadata,
+        names,
+        value,
+        ranks,
+        chosen,
+        count,
+        metadata_out,
+        value_out,
+    )
+}
+
+// Writes the normal form of a lawful document. The tables go by the number of names in its dictionary.
+pub fn normalise(
+    metadata: &[u8],
+    names: Names,
+    value: &[u8],
+    metadata_out: &mut [u8],
+    value_out: &mut [u8],
+) -> DocumentAnswer
+    requires { ⌜ Lent (now metadata) names (now value) ⌝ }
+    ensures { λ r. ⌜ ((d : Doc) → meaningOf mostLevels (namesIn (now (metadata .entry))) (now (value .entry)) ≡ some d → Answered (written d) (now («metadata_out» .entry)) (now («metadata_out» .exit)) (now («value_out» .entry)) (now («value_out» .exit)) r) ⌝ }
+{
+    if names.count <= 64 {
+        let mut used = [0u8; 64];
+        let mut ranks = [0u16; 64];
+        let mut chosen = [0u16; 64];
+        return with_tables(
+            metadata,
+            names,
+            value,
+            &mut used,
+            &mut ranks,
+            &mut chosen,
+            metadata_out,
+            value_out,
+        );
+    }
+    if names.count <= 1024 {
+        let mut used = [0u8; 1024];
+        let mut ranks = [0u16; 1024];
+        let mut chosen = [0u16; 1024];
+        return with_tables(
+            metadata,
+            names,
+            value,
+            &mut used,
+            &mut ranks,
+            &mut chosen,
+            metadata_out,
+            value_out,
+        );
+    }
+    let mut used = [0u8; 16384];
+    let mut ranks = [0u16; 16384];
+    let mut chosen = [0u16; 16384];
+    with_tables(
+        metadata,
+        names,
+        value,
+        &mut used,
+        &mut ranks,
+        &mut chosen,
+        metadata_out,
+        value_out,
+    )
 }

@@ -42,6 +42,7 @@ RanksOf names ids picked ranks = (id : ℕ) → holds id ids ≡ true → getD r
 -- Of some ids, so many are picked, one for each name, and their names rise; each id's entry is its name's place among them.
 pub record Folded (names : Dictionary) (ids chosen ranks : List ℕ) (picked : ℕ) : Type 0 where
   pub few : picked ≤ length ids
+  pub size : length chosen ≡ length ids
   pub within : allBelow (length names) (take picked chosen) ≡ true
   pub rise : rising (namesAt names (take picked chosen)) ≡ true
   pub all : (name : List ℕ) → among name (namesAt names (take picked chosen)) ≡ among name (namesAt names ids)

@@ -1,4 +1,5 @@
 -- What is written, and where.
 pub mod Ends
+pub mod Heads
 pub mod Rewritten
 pub mod Written

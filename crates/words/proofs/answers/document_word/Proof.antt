@@ -1,4 +1,4 @@
--- `document_word`: by the answer.
+-- `document_word`: by the answer; its two lengths have room in the word.
 use mathlib.Core.Path.{_∙_}
 use borrow.Author.Needs.{needs}
 use Rattle.paper.specs.Words.{oneIf}
@@ -12,14 +12,18 @@ enum-known-answer c = search needs
 
 word-requires : tie.Need-word-requires
 unfolding documentFits
-word-requires c κs = parts-fit _ _ (rw (c .before .answer .given .1) at (c .before .before .before .pre))
+word-requires c κs =
+    let room = parts-fit (c .before .answer .given .0 .0) (c .before .answer .given .0 .1 .0) (rw (c .before .answer .given .1) at (c .before .before .before .pre)) in
+    search needs
 
 enum-known-answer-2 : tie.Need-enum-known-answer-2
 enum-known-answer-2 c = search needs
 
 word-requires-2 : tie.Need-word-requires-2
 unfolding documentFits
-word-requires-2 c κs = parts-fit _ _ (rw (c .before .answer2 .given .1) at (c .before .before .before .pre))
+word-requires-2 c κs =
+    let room = parts-fit (c .before .answer2 .given .0 .0) (c .before .answer2 .given .0 .1 .0) (rw (c .before .answer2 .given .1) at (c .before .before .before .pre)) in
+    search needs
 
 enum-known-answer-3 : tie.Need-enum-known-answer-3
 enum-known-answer-3 c = search needs

@@ -1,0 +1,50 @@
+-- `comes_before`: less is answered exactly where the first name comes before the second.
+use borrow.Author.Needs.{needs}
+use Rattle.dictionary.proofs.CompareLaws.{isLess}
+use Rattle.ranking.proofs.OrderedLaws.{compared}
+use Rattle.ranking.proofs.sorting.comes_before.Statement.{statement}
+use Rattle.ranking.proofs.sorting.comes_before.Tie as tie
+
+name-requires : tie.Need-name-requires
+name-requires c κs = search needs
+
+name-requires-2 : tie.Need-name-requires-2
+name-requires-2 c κs = search needs
+
+compare-requires : tie.Need-compare-requires
+compare-requires c κs = search needs
+
+enum-told : tie.Need-enum-told
+enum-told c = search needs
+
+enum-told-2 : tie.Need-enum-told-2
+enum-told-2 c = search needs
+
+enum-told-3 : tie.Need-enum-told-3
+enum-told-3 c = search needs
+
+returns : tie.Need-returns
+unfolding isLess
+returns c = compared _ _ _ _ (c .before .before .before .before .name .ensures) (c .before .before .before .name2 .ensures) _ _ (c .before .before .compare .ensures) (c .enum-told .given .1)
+
+returns-2 : tie.Need-returns-2
+unfolding isLess
+returns-2 c = compared _ _ _ _ (c .before .before .before .before .name .ensures) (c .before .before .before .name2 .ensures) _ _ (c .before .before .compare .ensures) (c .enum-told2 .given .1)
+
+returns-3 : tie.Need-returns-3
+unfolding isLess
+returns-3 c = compared _ _ _ _ (c .before .before .before .before .name .ensures) (c .before .before .before .name2 .ensures) _ _ (c .before .before .compare .ensures) (c .enum-told3 .given .1)
+
+pub comes-before-spec : {M : Type 1} → statement M
+comes-before-spec =
+    tie.close
+    (tie.spec
+    name-requires
+    name-requires-2
+    compare-requires
+    enum-told
+    enum-told-2
+    enum-told-3
+    returns
+    returns-2
+    returns-3)

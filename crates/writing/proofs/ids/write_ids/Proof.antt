@@ -1,0 +1,72 @@
+-- `write_ids`: what is left is to be put behind what was put.
+use borrow.Author.Needs.{needs}
+use Prim.Native.Nat.{_-_}
+use Rattle.writing.proofs.IdLaws.{IdsSeen, id-inside, ids-start, to-there, to-fits, ids-next, ids-done}
+use Rattle.values.proofs.RunLaws.{standing-there, standing-fits}
+use Rattle.writing.proofs.ids.write_ids.Statement.{statement}
+use Rattle.writing.proofs.ids.write_ids.Tie as tie
+
+abbrev Inv-loop : tie.InvT-loop
+Inv-loop ranks ids id count width out₀ end start to₀ place₀ i₀ out to place i = IdsSeen ranks ids out₀ out id count width start end to place i
+
+abbrev μ-loop : tie.MeasureT-loop
+μ-loop ranks ids id count width out₀ end start to₀ place₀ i₀ out to place i = count - i
+
+mul-start : tie.Need-mul-start Inv-loop μ-loop
+mul-start c = search needs
+
+sub-start : tie.Need-sub-start Inv-loop μ-loop
+sub-start c = search needs
+
+loop-holds : tie.Need-loop-holds Inv-loop μ-loop
+loop-holds c = search (needs, ids-start)
+
+read-requires : tie.Need-read-requires Inv-loop μ-loop
+read-requires c κs = search (needs, standing-there)
+
+normal-of-requires : tie.Need-normal-of-requires Inv-loop μ-loop
+normal-of-requires c κs = search (needs, id-inside)
+
+write-requires : tie.Need-write-requires Inv-loop μ-loop
+write-requires c κs = search (needs, to-there)
+
+add-to : tie.Need-add-to Inv-loop μ-loop
+add-to c = search (needs, to-fits)
+
+add-place : tie.Need-add-place Inv-loop μ-loop
+add-place c = search (needs, standing-fits)
+
+add-i : tie.Need-add-i Inv-loop μ-loop
+add-i c = search needs
+
+loop-less : tie.Need-loop-less Inv-loop μ-loop
+loop-less c = search needs
+
+loop-again : tie.Need-loop-again Inv-loop μ-loop
+loop-again c = search (needs, ids-next)
+
+same-length : tie.Need-same-length Inv-loop μ-loop
+same-length c = search needs
+
+returns : tie.Need-returns Inv-loop μ-loop
+returns c = search (needs, ids-done)
+
+pub write-ids-spec : {M : Type 1} → statement M
+write-ids-spec =
+    tie.close
+    (tie.spec
+    Inv-loop
+    μ-loop
+    mul-start
+    sub-start
+    loop-holds
+    read-requires
+    normal-of-requires
+    write-requires
+    add-to
+    add-place
+    add-i
+    loop-less
+    loop-again
+    same-length
+    returns)
