@@ -1,9 +1,11 @@
 // What the library answers about the sample lots of document 01, a line each, for an inspector to read.
 use libc::STDOUT_FILENO;
+use order::Order;
 use paper::BoxAnswer;
 use paper::Cell;
 use paper::CellAnswer;
 use paper::Checked;
+use paper::DocumentAnswer;
 use paper::Found;
 use paper::Refusal;
 
@@ -73,6 +75,56 @@ fn cell(lot: &[u8], code: u8, bytes: &[u8]) {
             say(b"\n");
         }
         CellAnswer::Refused(refusal) => refused(refusal),
+    }
+}
+
+// Bytes that were written, against those that document 01 gives.
+fn as_given(written: &[u8], given: &[u8]) {
+    let order = order::compare(written, given);
+    match order {
+        Order::Less => say(b", other bytes"),
+        Order::Equal => say(b", as given"),
+        Order::Greater => say(b", other bytes"),
+    }
+}
+
+// One lot normalised into two buffers: the lengths written or needed, and whether the buffers then hold what is given.
+fn normalise(
+    lot: &[u8],
+    metadata: &[u8],
+    value: &[u8],
+    metadata_out: &mut [u8],
+    value_out: &mut [u8],
+    metadata_given: &[u8],
+    value_given: &[u8],
+) {
+    say(b"  ");
+    say(lot);
+    let answer = register::normalise(metadata, value, metadata_out, value_out);
+    match answer {
+        DocumentAnswer::Done {
+            metadata: first,
+            value: second,
+        } => {
+            say(b": metadata ");
+            say_number(first as u64);
+            as_given(metadata_out, metadata_given);
+            say(b", value ");
+            say_number(second as u64);
+            as_given(value_out, value_given);
+            say(b"\n");
+        }
+        DocumentAnswer::Short {
+            metadata: first,
+            value: second,
+        } => {
+            say(b": 9, metadata needs ");
+            say_number(first as u64);
+            say(b" and value ");
+            say_number(second as u64);
+            say(b"\n");
+        }
+        DocumentAnswer::Refused(refusal) => refused(refusal),
     }
 }
 
@@ -244,6 +296,55 @@ fn finds_2() {
     );
 }
 
+fn normals() {
+    say(b"normal form\n");
+    let mut metadata = [0u8; 7];
+    let mut value = [0u8; 9];
+    normalise(
+        b"{a: null, b: true} under the names b, a",
+        b"\x01\x02\x00\x01\x02\x62\x61",
+        b"\x02\x02\x01\x00\x01\x00\x02\x04\x00",
+        &mut metadata,
+        &mut value,
+        b"\x11\x02\x00\x01\x02\x61\x62",
+        b"\x02\x02\x00\x01\x00\x01\x02\x00\x04",
+    );
+    let mut short = [0u8; 4];
+    let mut empty = [0u8; 3];
+    normalise(
+        b"n/a with its length in four bytes",
+        b"\x01\x00\x00",
+        b"\x40\x03\x00\x00\x00\x6e\x2f\x61",
+        &mut empty,
+        &mut short,
+        b"\x11\x00\x00",
+        b"\x0d\x6e\x2f\x61",
+    );
+}
+
+fn normals_refused() {
+    let mut metadata = [0u8; 6];
+    let mut value = [0u8; 9];
+    normalise(
+        b"the metadata's buffer is a byte too short",
+        b"\x01\x02\x00\x01\x02\x62\x61",
+        b"\x02\x02\x01\x00\x01\x00\x02\x04\x00",
+        &mut metadata,
+        &mut value,
+        b"",
+        b"",
+    );
+    normalise(
+        b"ids that fall by their names",
+        b"\x01\x02\x00\x01\x02\x62\x61",
+        b"\x02\x02\x00\x01\x01\x00\x02\x04\x00",
+        &mut metadata,
+        &mut value,
+        b"",
+        b"",
+    );
+}
+
 fn boxes() {
     say(b"a lot's box\n");
     lot_box(
@@ -271,5 +372,7 @@ fn main() {
     cells_3();
     finds_1();
     finds_2();
+    normals();
+    normals_refused();
     boxes();
 }

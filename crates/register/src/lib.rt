@@ -8,12 +8,14 @@ ghost use lib.ListN.{length};
 ghost use Rattle.dictionary.specs.Judging.{Opened};
 ghost use Rattle.paper.specs.Limits.{mostLevels};
 ghost use Rattle.paper.specs.Metadata.{namesIn};
-ghost use Rattle.paper.specs.Operations.{checkAnswer, findAnswer, foundBy, cellAnswer, boxAnswer};
+ghost use Rattle.normalise.specs.Answered.{Answered};
+ghost use Rattle.numbers.specs.Little.{putAt};
+ghost use Rattle.paper.specs.Operations.{normaliseOutcome, documentAnswer, metadataWritten, valueWritten, checkAnswer, findAnswer, foundBy, cellAnswer, boxAnswer};
 ghost use Rattle.paper.specs.Paths.{pathOf, findFrom};
 ghost use Rattle.paper.specs.Refusals.{orElse, reached};
 ghost use Rattle.paper.specs.Values.{meaningOf};
 ghost use Rattle.paper.specs.Words.{isThere};
-ghost use Rattle.words.specs.Boundary.{checkedWord, foundWord, cellWord, boxWord};
+ghost use Rattle.words.specs.Boundary.{checkedWord, foundWord, documentWord, cellWord, boxWord};
 ghost use Rattle.words.specs.BoxParts.{sideWord};
 ghost use Rattle.words.specs.CellParts.{firstWord, secondWord};
 use dictionary::Names;
@@ -21,6 +23,7 @@ use documents::Document;
 use paper::BoxAnswer;
 use paper::CellAnswer;
 use paper::Checked;
+use paper::DocumentAnswer;
 use paper::Found;
 use paper::Refusal;
 use words::Side;
@@ -77,6 +80,38 @@ pub extern "C" fn tanvelis_find(metadata: &[u8], value: &[u8], path: &[u8]) -> u
     ensures { λ r. ⌜ r ≡ foundWord (findAnswer (now (metadata .entry)) (now (value .entry)) (now (path .entry))) ⌝ }
 {
     words::found_word(find(metadata, value, path))
+}
+
+// ---- normalise
+
+// Normalises a Variant: writes the normal form of what it means into two buffers, metadata and value.
+pub fn normalise(
+    metadata: &[u8],
+    value: &[u8],
+    metadata_out: &mut [u8],
+    value_out: &mut [u8],
+) -> DocumentAnswer
+    ensures { λ r. ⌜ Answered (normaliseOutcome (now (metadata .entry)) (now (value .entry))) (now («metadata_out» .entry)) (now («metadata_out» .exit)) (now («value_out» .entry)) (now («value_out» .exit)) r ⌝ }
+{
+    let judged = documents::judge(metadata, value);
+    match judged {
+        Document::Lawful(names) => {
+            normalise::normalise(metadata, names, value, metadata_out, value_out)
+        }
+        Document::Refused(refusal) => DocumentAnswer::Refused(refusal),
+    }
+}
+
+#[no_mangle]
+pub extern "C" fn tanvelis_normalise(
+    metadata: &[u8],
+    value: &[u8],
+    metadata_out: &mut [u8],
+    value_out: &mut [u8],
+) -> u64
+    ensures { λ r. ⌜ (r ≡ documentWord (documentAnswer (normaliseOutcome (now (metadata .entry)) (now (value .entry))) (length (now («metadata_out» .entry))) (length (now («value_out» .entry))))) × (now («metadata_out» .exit) ≡ putAt (now («metadata_out» .entry)) 0 (metadataWritten (normaliseOutcome (now (metadata .entry)) (now (value .entry))) (length (now («metadata_out» .entry))) (length (now («value_out» .entry))))) × (now («value_out» .exit) ≡ putAt (now («value_out» .entry)) 0 (valueWritten (normaliseOutcome (now (metadata .entry)) (now (value .entry))) (length (now («metadata_out» .entry))) (length (now («value_out» .entry))))) ⌝ }
+{
+    words::document_word(normalise(metadata, value, metadata_out, value_out))
 }
 
 // ---- a lot's box
