@@ -2,3 +2,4 @@
 pub mod ChosenLaws
 pub mod AnswerLaws
 pub mod NumberedLaws
+pub mod StandingLaws

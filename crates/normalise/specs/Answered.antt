@@ -1,9 +1,10 @@
 -- A document to be written into two lent buffers: the answer, and every byte of both.
-use mathlib.Core.Bool.{true}
+use mathlib.Core.Bool.{Bool, true, _&&_, _||_}
 use mathlib.Core.List.{List}
 use mathlib.Core.Option.{some}
 use mathlib.Core.Path.{_≡_}
 use Prim.Native.Nat.{ℕ, _≤_, _<_}
+use lib.Dec.{ltb, eqb}
 use lib.ListN.{length, getD}
 use Rattle.dictionary.specs.Judging.{Opened}
 use Rattle.dictionary.specs.declared.Names.{Names}
@@ -17,7 +18,7 @@ use Rattle.paper.specs.Normal.{Document, namesUsed}
 use Rattle.paper.specs.Operations.{documentAnswer, metadataWritten, valueWritten}
 use Rattle.paper.specs.Refusals.{Outcome}
 use Rattle.paper.specs.Values.{meaningOf}
-use Rattle.paper.specs.Words.{isThere, allBelow}
+use Rattle.paper.specs.Words.{at, isThere, allBelow}
 use Rattle.paper.specs.declared.DocumentAnswer.{DocumentAnswer}
 use Rattle.writing.specs.Written.{Right}
 
@@ -44,3 +45,7 @@ pub record Numbered (metadata : List ℕ) (names : Names) (value ranks chosen : 
   pub right : Right (namesIn metadata) (namesUsed d) ranks (idsIn mostLevels value)
   pub bytes : (i : ℕ) → getD value i 0 < 256
   pub value-short : length value ≤ 16384
+
+-- A string, type 16, or binary, type 15, that has its length in front: long enough that normal form writes it as it stands.
+unfoldable pub standing : List ℕ → Bool
+standing s = ltb 68 (length s) && (eqb (at s 0) 60 || eqb (at s 0) 64)

@@ -15,7 +15,7 @@ ghost use Rattle.paper.specs.Metadata.{namesIn};
 ghost use Rattle.paper.specs.Normal.{namesUsed, normalForm};
 ghost use Rattle.paper.specs.Operations.{written};
 ghost use Rattle.paper.specs.Values.{meaningOf};
-ghost use Rattle.normalise.specs.Answered.{Answered, Lent, Numbered};
+ghost use Rattle.normalise.specs.Answered.{Answered, Lent, Numbered, standing};
 use dictionary::Names;
 use paper::DocumentAnswer;
 use paper::Refusal;
@@ -87,7 +87,20 @@ fn write_out(
     )
 }
 
-// With the names numbered: lays out the room for the value, by its length.
+// A long string or binary is its own normal form.
+fn stands(value: &[u8]) -> bool
+    ensures { λ r. ⌜ r ≡ standing (now (value .entry)) ⌝ }
+{
+    if value.len() <= 68 {
+        return false;
+    }
+    if value[0] == 60 {
+        return true;
+    }
+    value[0] == 64
+}
+
+// With the names numbered: lays out the room for the value, by its length, unless the value is its own normal form.
 fn with_room(
     readings: &[u8],
     metadata: &[u8],
@@ -102,6 +115,17 @@ fn with_room(
     requires { ⌜ Readings (now readings) × Numbered (now metadata) names (now value) (now ranks) (now chosen) count × (length (now value) ≤ 16384) ⌝ }
     ensures { λ r. ⌜ ((d : Doc) → meaningOf mostLevels (namesIn (now (metadata .entry))) (now (value .entry)) ≡ some d → Answered (written d) (now («metadata_out» .entry)) (now («metadata_out» .exit)) (now («value_out» .entry)) (now («value_out» .exit)) r) ⌝ }
 {
+    if stands(value) {
+        return hand_out(
+            metadata,
+            names,
+            chosen,
+            count,
+            value,
+            metadata_out,
+            value_out,
+        );
+    }
     if value.len() <= 256 {
         let mut room = [0u8; 512];
         return write_out(
