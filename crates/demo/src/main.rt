@@ -296,7 +296,7 @@ fn finds_2() {
     );
 }
 
-fn normals() {
+fn normals_1() {
     say(b"normal form\n");
     let mut metadata = [0u8; 7];
     let mut value = [0u8; 9];
@@ -309,20 +309,23 @@ fn normals() {
         b"\x11\x02\x00\x01\x02\x61\x62",
         b"\x02\x02\x00\x01\x00\x01\x02\x00\x04",
     );
-    let mut short = [0u8; 4];
-    let mut empty = [0u8; 3];
+}
+
+fn normals_2() {
+    let mut metadata = [0u8; 3];
+    let mut value = [0u8; 4];
     normalise(
         b"n/a with its length in four bytes",
         b"\x01\x00\x00",
         b"\x40\x03\x00\x00\x00\x6e\x2f\x61",
-        &mut empty,
-        &mut short,
+        &mut metadata,
+        &mut value,
         b"\x11\x00\x00",
         b"\x0d\x6e\x2f\x61",
     );
 }
 
-fn normals_refused() {
+fn normals_3() {
     let mut metadata = [0u8; 6];
     let mut value = [0u8; 9];
     normalise(
@@ -334,6 +337,11 @@ fn normals_refused() {
         b"",
         b"",
     );
+}
+
+fn normals_4() {
+    let mut metadata = [0u8; 7];
+    let mut value = [0u8; 9];
     normalise(
         b"ids that fall by their names",
         b"\x01\x02\x00\x01\x02\x62\x61",
@@ -372,7 +380,9 @@ fn main() {
     cells_3();
     finds_1();
     finds_2();
-    normals();
-    normals_refused();
+    normals_1();
+    normals_2();
+    normals_3();
+    normals_4();
     boxes();
 }

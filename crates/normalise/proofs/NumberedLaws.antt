@@ -32,8 +32,9 @@ use Rattle.marking.proofs.UsedIdLaws.{ids-below}
 use Rattle.names.proofs.ContainedLaws.{contained-length}
 use Rattle.names.proofs.NeverLongerLaws.{read-length, read-count}
 use Rattle.names.proofs.SameLaws.{among-at}
-use Rattle.normalise.proofs.ChosenLaws.{named, below-all, chosen-used, ranks-right}
+use Rattle.normalise.proofs.ChosenLaws.{chosen-used, ranks-right}
 use Rattle.paper.proofs.WordLaws.{there-some}
+use Rattle.ranking.proofs.HeldLaws.{named, below-held}
 use Rattle.values.proofs.WalkLaws.{below-more}
 
 -- ---- a numbered document is ready to be written
@@ -107,8 +108,8 @@ write-answers {m} {names} {v} {ranks} {chosen} {count} n {before} {after} {start
 picked-among : (names : Dictionary) (ids : List ℕ) → allBelow (length names) ids ≡ true
     → (name : List ℕ) → among name (namesAt names ids) ≡ true → among name names ≡ true
 picked-among names ids below name e =
-    let n = named names name ids e in
-    let inside : n .0 < length names = below-all (length names) ids (n .0) below (n .1) in
+    let n = named names ids name e in
+    let inside : n .0 < length names = below-held (length names) ids below (n .0) (n .1) in
     ap (λ (x : List ℕ). among x names) (sym (n .2)) ∙ among-at names (n .0) inside
 
 -- ---- the names of a lawful document, marked and ranked, are numbered

@@ -11,6 +11,7 @@ use Rattle.paper.specs.Normal.{idOf}
 use Rattle.paper.specs.Words.{same, among}
 use Rattle.names.proofs.SameLaws.{among-at}
 use Rattle.paper.proofs.WordLaws.{never, and-both}
+use Rattle.ranking.proofs.HeldLaws.{or-none, or-more}
 
 -- A name that comes after the last one may be put behind rising names, ..
 pub rising-behind : (names : Dictionary) (k : ℕ) (new : List ℕ) → rising names ≡ true → length names ≡ suc k → before (getD names k []) new ≡ true
@@ -34,16 +35,9 @@ rising-last (a ∷ more) new rise after =
 
 pub among-behind : (name : List ℕ) (names : Dictionary) (new : List ℕ) → among name (names ++ (new ∷ [])) ≡ among name names || same new name
 unfolding among
-among-behind name [] new = go (same new name)
-  where
-    go : (b : Bool) → b || false ≡ b
-    go true = refl
-    go false = refl
-among-behind name (a ∷ more) new = ap (λ (b : Bool). same a name || b) (among-behind name more new) ∙ go (same a name) (among name more) (same new name)
-  where
-    go : (p q r : Bool) → p || (q || r) ≡ (p || q) || r
-    go true q r = refl
-    go false q r = refl
+among-behind name [] new = or-none (same new name)
+among-behind name (a ∷ more) new =
+    ap (λ (b : Bool). same a name || b) (among-behind name more new) ∙ sym (or-more (same a name) (among name more) (same new name))
 
 -- The names in front keep their ids.
 pub id-front : (names more : Dictionary) (name : List ℕ) → among name names ≡ true → idOf (names ++ more) name ≡ idOf names name

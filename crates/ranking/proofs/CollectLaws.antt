@@ -58,6 +58,21 @@ used-lower (suc count) used id e = go (marked-or-not (getD used count 0)) (used-
 pub used-below : (count bound : ℕ) (used : List ℕ) → count ≤ bound → allBelow bound (usedIds count used) ≡ true
 used-below count bound used h = held-below bound (usedIds count used) λ id e. let lower = used-lower count used id e in omega arith
 
+-- .. has the entry 1, ..
+pub used-entry : (count : ℕ) (used : List ℕ) (id : ℕ) → holds id (usedIds count used) ≡ true → getD used id 0 ≡ 1
+unfolding usedIds holds
+used-entry zero used id e = never (sym e)
+used-entry (suc count) used id e = go (marked-or-not (getD used count 0)) (used-entry count used id)
+  where
+    behind : getD used count 0 ≡ 1 → (holds id (usedIds count used) ≡ true → getD used id 0 ≡ 1)
+        → (holds id (usedIds count used) ≡ true) ⊎ (count ≡ id) → getD used id 0 ≡ 1
+    behind one rest (inl further) = rest further
+    behind one rest (inr is) = rw is at one
+
+    go : Marked (getD used count 0) → (holds id (usedIds count used) ≡ true → getD used id 0 ≡ 1) → getD used id 0 ≡ 1
+    go (marked is) rest = behind is rest (held-behind id count (usedIds count used) (ap (holds id) (sym (used-one count used is)) ∙ e))
+    go (clear is-not) rest = rest (ap (holds id) (sym (used-none count used is-not)) ∙ e)
+
 -- .. each used one is there, ..
 pub used-held : (count : ℕ) (used : List ℕ) (id : ℕ) → id < count → getD used id 0 ≡ 1 → holds id (usedIds count used) ≡ true
 unfolding usedIds
@@ -88,7 +103,8 @@ used-length (suc count) used = go (eqb (getD used count 0) 1) (used-length count
     go false h = rw length-append (omega arith)
 
 -- In a rising dictionary their names rise.
-pub used-rise : (names : Dictionary) (used : List ℕ) → rising names ≡ true → (count : ℕ) → count ≤ length names → rising (namesAt names (usedIds count used)) ≡ true
+pub used-rise : (names : Dictionary) (used : List ℕ) → rising names ≡ true → (count : ℕ) → count ≤ length names
+    → rising (namesAt names (usedIds count used)) ≡ true
 unfolding usedIds namesAt rising
 used-rise names used rise zero h = refl
 used-rise names used rise (suc count) h = go (marked-or-not (getD used count 0)) (used-rise names used rise count (omega arith))
@@ -118,15 +134,16 @@ unfolding usedIds
 collect-start used chosen = record { size = refl; few = omega arith; room = refl; front = refl }
 
 module _ {used chosen₀ chosen : List ℕ} {n i : ℕ} (seen : Collected used chosen₀ chosen n i) where
-  pub collect-one : getD used i 0 ≡ 1 → i < length chosen₀ → {after : List ℕ} {n′ : ℕ} → after ≡ set chosen n i → n′ ≡ n + 1 → Collected used chosen₀ after n′ (i + 1)
+  pub collect-one : getD used i 0 ≡ 1 → i < length chosen₀ → {after : List ℕ} {n′ : ℕ} → after ≡ set chosen n i → n′ ≡ n + 1
+      → Collected used chosen₀ after n′ (i + 1)
   collect-one is h {after} {n′} e more =
       let same-room : length chosen ≡ length chosen₀ = seen .room in
       let fewer : n ≤ i = seen .few in
       record {
-        size = rw (more, add-one, add-one, used-one i used is, length-append, ← seen .size) (omega arith);
+        size = rw (more, add-one n, add-one i, used-one i used is, length-append, ← seen .size) (omega arith);
         few = omega arith;
         room = ap length e ∙ length-set chosen n i ∙ seen .room;
-        front = rw (e, more, add-one, add-one, take-suc-set chosen n i (omega arith), seen .front) (sym (used-one i used is));
+        front = rw (e, more, add-one n, add-one i, take-suc-set chosen n i (omega arith), seen .front) (sym (used-one i used is));
       }
 
   pub collect-none : (getD used i 0 ≡ 1 → ⊥) → {after : List ℕ} {n′ : ℕ} → after ≡ chosen → n′ ≡ n → Collected used chosen₀ after n′ (i + 1)

@@ -1,5 +1,5 @@
 -- Ids copied to the front of a table, one more at a time.
-use mathlib.Core.List.{List, _++_}
+use mathlib.Core.List.{List, _∷_, _++_}
 use mathlib.Core.Path.{_≡_, refl, ap, _∙_}
 use Prim.Native.Nat.{ℕ, suc, _+_, _≤_, _<_}
 use native.Mathlib.Numerals.{add-one}
@@ -19,10 +19,12 @@ copy-start ids out = record { far = omega arith; size = refl; front = refl }
 module _ {ids out₀ out : List ℕ} {i : ℕ} (seen : Copied ids out₀ out i) where
   pub copy-next : i < length ids → length ids ≤ length out₀ → {after : List ℕ} → after ≡ set out i (getD ids i 0) → Copied ids out₀ after (i + 1)
   copy-next h room e =
+      let stored : set (take i ids ++ getD out₀ i 0 ∷ drop (suc i) out₀) i (getD ids i 0) ≡ take i ids ++ getD ids i 0 ∷ drop (suc i) out₀ =
+      set-at (take i ids) (getD out₀ i 0) (drop (suc i) out₀) (getD ids i 0) i (length-take-le i ids (omega arith)) in
       record {
         far = omega arith;
         size = ap length e ∙ length-set out i (getD ids i 0) ∙ seen .size;
-        front = e ∙ rw (seen .front, drop-cons out₀ i 0 (omega arith), set-at (take i ids) (getD out₀ i 0) (drop (suc i) out₀) (getD ids i 0) i (length-take-le i ids (omega arith)), add-one, take-suc ids i 0 h, append-snoc);
+        front = e ∙ rw (seen .front, drop-cons out₀ i 0 (omega arith), stored, add-one, take-suc ids i 0 h, append-snoc);
       }
 
   pub copy-done : length ids ≤ i → out ≡ ids ++ drop (length ids) out₀

@@ -21,12 +21,8 @@ use Rattle.names.proofs.SameLaws.{same-refl, same-is, among-at}
 use Rattle.order.proofs.OrderLaws.{before-total}
 use Rattle.paper.proofs.WordLaws.{and-both}
 use Rattle.ranking.proofs.BehindLaws.{rising-behind, among-behind, id-front}
-use Rattle.ranking.proofs.HeldLaws.{below-behind, name-held, names-behind, names-length}
+use Rattle.ranking.proofs.HeldLaws.{or-none, below-behind, name-held, names-behind, names-length}
 use Rattle.ranking.proofs.PlaceLaws.{ranks-next, ranks-none}
-
-or-none : (b : Bool) → b || false ≡ b
-or-none true = refl
-or-none false = refl
 
 -- Of the ids seen, of which `last` was the last, these are kept.
 pub record Kept (names : Dictionary) (seen picked ranks : List ℕ) (last : ℕ) : Type 0 where
@@ -61,14 +57,17 @@ module _ {names : Dictionary} {seen picked ranks : List ℕ} {last : ℕ} (kept 
     top-inside = let size = names-length names picked in let more = kept .some in omega arith
 
     same-all : (name : List ℕ) → among name (namesAt names picked) ≡ among name (namesAt names (seen ++ (id ∷ [])))
-    same-all name = sym (ap (among name) (names-behind names seen id) ∙ among-behind name (namesAt names seen) (getD names id []) ∙ go (same (getD names id []) name) refl)
+    same-all name =
+        sym (ap (among name) (names-behind names seen id) ∙ among-behind name (namesAt names seen) (getD names id [])
+        ∙ go (same (getD names id []) name) refl)
       where
         go : (b : Bool) → same (getD names id []) name ≡ b → among name (namesAt names seen) || b ≡ among name (namesAt names picked)
         go false e = rw (← kept .all name) (or-none (among name (namesAt names picked)))
         go true e =
             let there : among (getD (namesAt names picked) (length picked - 1) []) (namesAt names picked) ≡ true =
             among-at (namesAt names picked) (length picked - 1) top-inside in
-            let here : among name (namesAt names picked) ≡ true = ap (λ (n : List ℕ). among n (namesAt names picked)) (sym (same-top ∙ same-is (getD names id []) name e)) ∙ there in
+            let is-top : getD (namesAt names picked) (length picked - 1) [] ≡ name = same-top ∙ same-is (getD names id []) name e in
+            let here : among name (namesAt names picked) ≡ true = rw is-top at there in
             rw (← kept .all name, here)
 
     pub kept-same : Kept names (seen ++ (id ∷ [])) picked (set ranks id (length picked - 1)) id
@@ -110,7 +109,13 @@ module _ {names : Dictionary} {seen picked ranks : List ℕ} {last : ℕ} (kept 
         record {
           within = below-behind (length names) picked id (kept .within) h;
           rise = new-rise;
-          all = λ name. rw (names-behind names picked id, names-behind names seen id, among-behind, among-behind, kept .all name);
+          all = λ name. rw (
+            names-behind names picked id,
+            names-behind names seen id,
+            among-behind name (namesAt names picked) (getD names id []),
+            among-behind name (namesAt names seen) (getD names id []),
+            kept .all name,
+          );
           right = ranks-next names seen (picked ++ (id ∷ [])) ranks id (length picked) new-right k
               (sym (ap (idOf (namesAt names (picked ++ (id ∷ [])))) (sym new-place) ∙ id-place (namesAt names (picked ++ (id ∷ []))) (length picked) new-rise inside));
           some = rw new-size (omega arith);
@@ -192,8 +197,8 @@ module _ {names : Dictionary} {ids₀ ids ranks₀ ranks : List ℕ} {last kept 
         and-both _ _ (rw left at (seen .order))
 
     module _ (r : Bool) (told : r ≡ before (getD names last []) (getD names id [])) where
-      pub fold-new : r ≡ true → {ids′ ranks′ : List ℕ} {kept′ : ℕ} → ids′ ≡ set ids kept (getD ids i 0) → kept′ ≡ kept + 1 → ranks′ ≡ set ranks id (kept′ - 1)
-          → FoldSeen names ids₀ ids′ ranks₀ ranks′ id kept′ (i + 1)
+      pub fold-new : r ≡ true → {ids′ ranks′ : List ℕ} {kept′ : ℕ} → ids′ ≡ set ids kept (getD ids i 0) → kept′ ≡ kept + 1
+          → ranks′ ≡ set ranks id (kept′ - 1) → FoldSeen names ids₀ ids′ ranks₀ ranks′ id kept′ (i + 1)
       fold-new passed {ids′} {ranks′} {kept′} e more f =
           let fewer : kept ≤ i = seen .few in
           let size : length (take kept ids) ≡ kept = length-take-le kept ids (omega arith) in

@@ -22,6 +22,10 @@ truths true b there back = sym (there refl)
 truths false true there back = back refl
 truths false false there back = refl
 
+pub or-none : (b : Bool) → b || false ≡ b
+or-none true = refl
+or-none false = refl
+
 pub or-more : (a b c : Bool) → (a || b) || c ≡ a || (b || c)
 or-more true b c = refl
 or-more false b c = refl
@@ -84,12 +88,25 @@ held-below bound (n ∷ ns) each =
 pub entry-below : (bound : ℕ) (ids : List ℕ) (i r : ℕ) → allBelow bound ids ≡ true → i < length ids → r ≡ getD ids i 0 → r < bound
 entry-below bound ids i r below h is = let lower = below-at bound ids i below h in omega arith
 
+-- Two runs are below it exactly where each is.
+pub below-both : (bound : ℕ) (xs ys : List ℕ) → allBelow bound (xs ++ ys) ≡ true → (allBelow bound xs ≡ true) × (allBelow bound ys ≡ true)
+unfolding allBelow
+below-both bound [] ys below = (refl, below)
+below-both bound (x ∷ xs) ys below =
+    let first = and-both (ltb x bound) (allBelow bound (xs ++ ys)) below in
+    let more = below-both bound xs ys (first .1) in
+    (rw (first .0) (more .0), more .1)
+
+pub below-join : (bound : ℕ) (xs ys : List ℕ) → allBelow bound xs ≡ true → allBelow bound ys ≡ true → allBelow bound (xs ++ ys) ≡ true
+unfolding allBelow
+below-join bound [] ys below more = more
+below-join bound (x ∷ xs) ys below more =
+    let first = and-both (ltb x bound) (allBelow bound xs) below in
+    rw (first .0) (below-join bound xs ys (first .1) more)
+
 pub below-behind : (bound : ℕ) (ids : List ℕ) (id : ℕ) → allBelow bound ids ≡ true → id < bound → allBelow bound (ids ++ (id ∷ [])) ≡ true
 unfolding allBelow
-below-behind bound [] id below h = rw (lt-ltb id bound h)
-below-behind bound (n ∷ ns) id below h =
-    let both = and-both (ltb n bound) (allBelow bound ns) below in
-    rw (both .0) (below-behind bound ns id (both .1) h)
+below-behind bound ids id below h = below-join bound ids (id ∷ []) below (rw (lt-ltb id bound h))
 
 -- ---- the names of ids
 
@@ -125,7 +142,8 @@ name-held names (n ∷ ns) id e = go (name-held names ns id) (held-either id n n
     go rest (inr further) = among-more (getD names id []) (getD names n []) (namesAt names ns) (rest further)
 
 -- .. and each of their names is that of an id among them.
-pub named : (names : Dictionary) (ids : List ℕ) (name : List ℕ) → among name (namesAt names ids) ≡ true → (id : ℕ) × (holds id ids ≡ true) × (getD names id [] ≡ name)
+pub named : (names : Dictionary) (ids : List ℕ) (name : List ℕ) → among name (namesAt names ids) ≡ true
+    → (id : ℕ) × (holds id ids ≡ true) × (getD names id [] ≡ name)
 unfolding namesAt among
 named names [] name e = never (sym e)
 named names (n ∷ ns) name e = go (among-either name (getD names n []) (namesAt names ns) e) (named names ns name)

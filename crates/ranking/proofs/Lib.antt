@@ -12,3 +12,4 @@ pub mod OpenedLaws
 pub mod HalfLaws
 pub mod SortedHalfLaws
 pub mod RankLaws
+pub mod MarkedLaws

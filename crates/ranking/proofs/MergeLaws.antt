@@ -26,8 +26,8 @@ module _ (names : Dictionary) (first second : List ℕ) (i j : ℕ) where
     unfolding takesFirst
     takes-all past = rw (drop-cons first i 0 h, drop-of-length-le second past)
 
-    pub takes-lower : j < length second → (x y : ℕ) → x ≡ getD first i 0 → y ≡ getD second j 0 → (r : Bool) → r ≡ before (getD names y []) (getD names x [])
-        → not r ≡ takesFirst names (drop i first) (drop j second)
+    pub takes-lower : j < length second → (x y : ℕ) → x ≡ getD first i 0 → y ≡ getD second j 0
+        → (r : Bool) → r ≡ before (getD names y []) (getD names x []) → not r ≡ takesFirst names (drop i first) (drop j second)
     unfolding takesFirst
     takes-lower k x y is-x is-y r told = rw (told, is-x, is-y, drop-cons first i 0 h, drop-cons second j 0 k)
 
@@ -39,7 +39,8 @@ module _ (names : Dictionary) (first second : List ℕ) (i j : ℕ) where
       go true e = ltb-true i (length first) e
       go false e = never (sym (takes-ended (ltb-false i (length first) e) ∙ sym told ∙ passed))
 
-  pub takes-other : (r : Bool) → r ≡ takesFirst names (drop i first) (drop j second) → r ≡ false → i ≤ length first → i + j < length first + length second → j < length second
+  pub takes-other : (r : Bool) → r ≡ takesFirst names (drop i first) (drop j second) → r ≡ false
+      → i ≤ length first → i + j < length first + length second → j < length second
   takes-other r told failed far more = go (ltb j (length second)) refl
     where
       go : (b : Bool) → ltb j (length second) ≡ b → j < length second
@@ -55,7 +56,8 @@ unfolding merged mergeInto takesFirst
 merged-first names x xs [] e = refl
 merged-first names x xs (y ∷ ys) e = rw (not-true (before (getD names y []) (getD names x [])) e)
 
-merged-second : (names : Dictionary) (xs : List ℕ) (y : ℕ) (ys : List ℕ) → takesFirst names xs (y ∷ ys) ≡ false → merged names xs (y ∷ ys) ≡ y ∷ merged names xs ys
+merged-second : (names : Dictionary) (xs : List ℕ) (y : ℕ) (ys : List ℕ) → takesFirst names xs (y ∷ ys) ≡ false
+    → merged names xs (y ∷ ys) ≡ y ∷ merged names xs ys
 unfolding merged mergeInto takesFirst
 merged-second names [] y ys e = refl
 merged-second names (x ∷ xs) y ys e = rw (not-false (before (getD names y []) (getD names x [])) e)
@@ -76,7 +78,8 @@ module _ {names : Dictionary} {first second out : List ℕ} {i j : ℕ} (seen : 
   written id rest h = sym (rw (take-suc-set out (i + j) id h, append-snoc))
 
   module _ (r : Bool) (told : r ≡ takesFirst names (drop i first) (drop j second)) where
-    pub merge-first : r ≡ true → i + j < length out → {after : List ℕ} → after ≡ set out (i + j) (getD first i 0) → MergeSeen names first second after (i + 1) j
+    pub merge-first : r ≡ true → i + j < length out → {after : List ℕ} → after ≡ set out (i + j) (getD first i 0)
+        → MergeSeen names first second after (i + 1) j
     merge-first passed h e =
         let there : i < length first = takes-there names first second i j r told passed in
         let left : drop i first ≡ getD first i 0 ∷ drop (i + 1) first = rw (add-one, drop-cons first i 0 there) in
@@ -93,7 +96,8 @@ module _ {names : Dictionary} {first second out : List ℕ} {i j : ℕ} (seen : 
               ∙ written (getD first i 0) (merged names (drop (i + 1) first) (drop j second)) h ∙ rw (e, place);
         }
 
-    pub merge-second : r ≡ false → i + j < length out → {after : List ℕ} → after ≡ set out (i + j) (getD second j 0) → MergeSeen names first second after i (j + 1)
+    pub merge-second : r ≡ false → i + j < length out → {after : List ℕ} → after ≡ set out (i + j) (getD second j 0)
+        → MergeSeen names first second after i (j + 1)
     merge-second failed h e =
         let size : length out ≡ length first + length second = seen .size in
         let there : j < length second = takes-other names first second i j r told failed (seen .far-first) (omega arith) in

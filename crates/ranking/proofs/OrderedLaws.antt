@@ -36,7 +36,8 @@ module _ (names : Dictionary) (ids : List ℕ) (bound : ℕ) (below : allBelow b
   ordered-start some first is =
       let here : 0 < length ids = omega arith in
       let lower : getD ids 0 0 < bound = below-at bound ids 0 below here in
-      record { far = omega arith; last-below = omega arith; whole = ap (λ (l : List ℕ). rising (namesAt names l)) (drop-cons ids 0 0 here ∙ ap (λ (n : ℕ). n ∷ drop 1 ids) (sym is)) }
+      let all-ids : ids ≡ first ∷ drop 1 ids = drop-cons ids 0 0 here ∙ ap (λ (n : ℕ). n ∷ drop 1 ids) (sym is) in
+      record { far = omega arith; last-below = omega arith; whole = ap (λ (l : List ℕ). rising (namesAt names l)) all-ids }
 
   module _ {last i : ℕ} (seen : Ordered names ids bound last i) where
     pub ordered-done : length ids ≤ i → true ≡ rising (namesAt names ids)

@@ -12,7 +12,7 @@ use Rattle.paper.specs.Words.{allBelow}
 use Rattle.ranking.specs.Merging.{merged}
 use Rattle.ranking.specs.Ranks.{Sorted}
 use Rattle.dictionary.proofs.NumbersRunLaws.{rest-is}
-use Rattle.ranking.proofs.HalfLaws.{below-both, below-join}
+use Rattle.ranking.proofs.HeldLaws.{below-both, below-join}
 use Rattle.ranking.proofs.SortLaws.{sort-few, sort-merged, sorted-below}
 
 -- A run of no half is sorted.
@@ -32,14 +32,12 @@ module _ (names : Dictionary) (ids : List ℕ) (half : ℕ) (h : half ≤ length
   front-size : length a ≡ half
   front-size = first .size ∙ length-take-le half ids h
 
-  back-size : length (a ++ drop half ids) ≡ length ids
-  back-size = let size = front-size in rw (length-append, length-drop) (omega arith)
-
   -- The second half is what it was, ..
   second-is : take (length (a ++ drop half ids) - half) (drop half (a ++ drop half ids)) ≡ drop half ids
   second-is = rest-is (a ++ drop half ids) half ∙ drop-at a (drop half ids) half front-size
 
-  pub second-below : (bound : ℕ) → allBelow bound ids ≡ true → allBelow bound (take (length (a ++ drop half ids) - half) (drop half (a ++ drop half ids))) ≡ true
+  pub second-below : (bound : ℕ) → allBelow bound ids ≡ true
+      → allBelow bound (take (length (a ++ drop half ids) - half) (drop half (a ++ drop half ids))) ≡ true
   second-below bound below = rw second-is (below-both bound (take half ids) (drop half ids) (rw take-append-drop below) .1)
 
   pub second-size : length (take (length (a ++ drop half ids) - half) (drop half (a ++ drop half ids))) ≡ length ids - half

@@ -33,7 +33,7 @@ fn collect(used: &[u8], count: usize, chosen: &mut [u16]) -> usize
 
 // Gives each of some ids, whose names rise, its place.
 fn place(ids: &[u16], ranks: &mut [u16])
-    requires { ⌜ (allBelow (length (now ranks)) (now ids) ≡ true) × (length (now ids) ≤ 65536) ⌝ }
+    requires { ⌜ (allBelow (length (now ranks)) (now ids) ≡ true) × (length (now ids) ≤ 16384) ⌝ }
     ensures { λ _. ⌜ ((names : Dictionary) → rising (namesAt names (now (ids .entry))) ≡ true → RanksOf names (now (ids .entry)) (now (ids .entry)) (now (ranks .exit))) ⌝ }
 {
     let mut i = 0;
@@ -47,7 +47,7 @@ fn place(ids: &[u16], ranks: &mut [u16])
 // Of ids whose names never fall keeps the first of each name, and gives each id its name's place among those kept. Answers
 // how many are kept.
 fn fold(metadata: &[u8], names: Names, ids: &mut [u16], ranks: &mut [u16]) -> usize
-    requires { ⌜ Opened (now metadata) names × (allBelow (names .count) (now ids) ≡ true) × (neverFalls (namesAt (namesIn (now metadata)) (now ids)) ≡ true) × (names .count ≤ length (now ranks)) × (length (now ids) ≤ 65536) ⌝ }
+    requires { ⌜ Opened (now metadata) names × (allBelow (names .count) (now ids) ≡ true) × (neverFalls (namesAt (namesIn (now metadata)) (now ids)) ≡ true) × (names .count ≤ length (now ranks)) × (length (now ids) ≤ 16384) ⌝ }
     ensures { λ r. ⌜ Folded (namesIn (now (metadata .entry))) (now (ids .entry)) (now (ids .exit)) (now (ranks .exit)) r ⌝ }
 {
     if ids.len() == 0 {

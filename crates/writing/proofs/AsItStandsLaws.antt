@@ -101,7 +101,8 @@ primitive-stands normal s d type first long other e = go type first long other e
     go (suc (suc zero)) f l o m = alone 8 f l ∙ ap (valueBytes normal) (some-injective (scalar (boolean false)) d m)
     go (suc (suc (suc more))) f l o m =
         let t : ℕ = suc (suc (suc more)) in
-        let is : scalar (payload t (drop 1 s)) ≡ d = some-injective (scalar (payload t (drop 1 s))) d (given-some _ (some (scalar (payload t (drop 1 s)))) m .1) in
+        let held : Doc = scalar (payload t (drop 1 s)) in
+        let is : held ≡ d = some-injective held d (given-some _ (some held) m .1) in
         let as-payload : s ≡ valueBytes normal (scalar (payload t (drop 1 s))) = rw (ne-eqb t 15 o) (sym f) in
         as-payload ∙ ap (valueBytes normal) is
 
@@ -179,7 +180,8 @@ module _ (s : List ℕ) (fills : whole s ≡ true) where
     unfolding shortened valueBytes scalarBytes prefixedMeaning
     prefixed-stands normal = go (eqb type 16) refl
       where
-        go : (b : Bool) → eqb type 16 ≡ b → cond (b && leb (length s) 68) ((4 * (length s - 5) + 1) ∷ drop 5 s) s ≡ valueBytes normal (prefixedMeaning b type (drop 5 s))
+        go : (b : Bool) → eqb type 16 ≡ b
+            → cond (b && leb (length s) 68) ((4 * (length s - 5) + 1) ∷ drop 5 s) s ≡ valueBytes normal (prefixedMeaning b type (drop 5 s))
         go true e = text-stands (eqb-true type 16 e) (leb (length s) 68) refl
         go false e =
             let sizes = prefixed-sizes (at s 0) is in

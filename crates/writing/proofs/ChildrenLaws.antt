@@ -3,9 +3,8 @@ use mathlib.Core.List.{List, [], _∷_, _++_}
 use mathlib.Core.Option.{Option·some-injective as some-injective}
 use mathlib.Core.Path.{_≡_, refl, sym, ap, _∙_, subst}
 use Prim.Native.Nat.{ℕ, zero, suc, _+_, _-_, _*_, _≤_, _<_}
-use native.Mathlib.Nat.{suc-mul}
 use native.Mathlib.Omega.{arith}
-use lib.ListN.{length, getD, take, drop, length-append, length-map, drop-of-length-le, List·getD-map}
+use lib.ListN.{length, getD, take, drop, length-append, drop-of-length-le, List·getD-map}
 use lib.Seq.{drop-cons}
 use mir.Syntax.{w64}
 use mir.Val.{Fits}
@@ -26,6 +25,7 @@ use Rattle.writing.specs.Rewritten.{partAt, partsOf, rewritten}
 use Rattle.writing.specs.Written.{Writable, WritableChild, Holding}
 use Rattle.writing.proofs.EndLaws.{nothing-ends, ends-join, ends-length}
 use Rattle.writing.proofs.InsideLaws.{part-is, child-small}
+use Rattle.writing.proofs.RewrittenLaws.{parts-length, parts-counted}
 
 joined-drop : (parts : List (List ℕ)) (k : ℕ) → length (joined (drop k parts)) ≤ length (joined parts)
 unfolding joined
@@ -37,38 +37,31 @@ joined-drop (one ∷ more) (suc k) =
     let size : length (one ++ joined more) ≡ length one + length (joined more) = length-append one (joined more) in
     omega arith
 
--- With the last k children unwritten: .. up to the first k.
-pub record ChildrenSeen (levels : ℕ) (s ranks : List ℕ) (c i w : ℕ) (area starts out₀ out : List ℕ) (count end start place k : ℕ) : Type 0 where
+-- With the first k children still to be written: the parts behind them stand up to the end.
+pub record ChildrenSeen (levels : ℕ) (s ranks : List ℕ) (c i w : ℕ) (area starts out₀ out : List ℕ) (count end start k : ℕ) : Type 0 where
   pub within : k ≤ count
-  pub place-is : place ≡ k * w
   pub starts-in : count * w ≤ length starts
+  pub starts-small : length starts ≤ 65536
   pub same-area : area ≡ areaOf c i w s
   pub same-starts : numbers w count starts ≡ startsOf c i w s
   pub small : length area ≤ 65536
   pub same-size : length out ≡ length out₀
   pub ends : EndsAt (joined (drop k (partsOf (rewritten levels ranks) c i w s))) out₀ out end start
 
-pub count-fits : {s : List ℕ} {c i w : ℕ} → Container s c i w → {l : Layout} → LaidOut s c i w l → Fits w64 (l .count * w)
-count-fits {s} {c} {i} {w} container {l} laid =
-    let there : l .count * w ≤ length (rest s (l .starts)) = rw (laid .width-is) at (starts-there s c i w container l laid) in
-    let few : length (rest s (l .starts)) ≤ 65536 = starts-few s c i w container l laid in
-    record { fits = omega arith }
-
 module _ (levels : ℕ) (ranks : List ℕ) {s : List ℕ} {c i w : ℕ} (container : Container s c i w) {l : Layout} (laid : LaidOut s c i w l) where
   pub children-start : (out : List ℕ) (end : ℕ)
-      → ChildrenSeen levels s ranks c i w (rest s (l .area)) (rest s (l .starts)) out out (l .count) end end (l .count * w) (l .count)
-  unfolding joined partsOf
+      → ChildrenSeen levels s ranks c i w (rest s (l .area)) (rest s (l .starts)) out out (l .count) end end (l .count)
+  unfolding joined
   children-start out end =
       let there : l .count * w ≤ length (rest s (l .starts)) = rw (laid .width-is) at (starts-there s c i w container l laid) in
       let same-starts : numbers w (l .count) (rest s (l .starts)) ≡ startsOf c i w s = rw (laid .width-is) at (starts-same s c i w container l laid) in
-      let many : length (startsOf c i w s) ≡ l .count = ap length (sym same-starts) ∙ run-length w (l .count) (rest s (l .starts)) (container .least) there in
       let parts : List (List ℕ) = partsOf (rewritten levels ranks) c i w s in
-      let size : length parts ≡ l .count = length-map (startsOf c i w s) (partAt (rewritten levels ranks) (areaOf c i w s)) ∙ many in
+      let size : length parts ≡ l .count = parts-counted (rewritten levels ranks) container l laid in
       let none : drop (l .count) parts ≡ [] = drop-of-length-le parts {i = l .count} (omega arith) in
       record {
         within = omega arith;
-        place-is = refl;
         starts-in = there;
+        starts-small = starts-few s c i w container l laid;
         same-area = area-same s c i w container l laid;
         same-starts = same-starts;
         small = area-small s c i w container l laid;
@@ -76,25 +69,25 @@ module _ (levels : ℕ) (ranks : List ℕ) {s : List ℕ} {c i w : ℕ} (contain
         ends = subst (λ (p : List (List ℕ)). EndsAt (joined p) out out end end) (sym none) (nothing-ends out end);
       }
 
-module _ {levels : ℕ} {s ranks : List ℕ} {c i w : ℕ} {area starts out₀ out : List ℕ} {count end start place k room : ℕ}
-    (seen : ChildrenSeen levels s ranks c i w area starts out₀ out count end start place k) (holding : Holding levels s ranks c i w room end)
+-- The start of a child is there.
+module _ {levels : ℕ} {s ranks : List ℕ} {c i w : ℕ} {area starts out₀ out : List ℕ} {count end start k : ℕ}
+    (seen : ChildrenSeen levels s ranks c i w area starts out₀ out count end start k) (n : ℕ) (h : n < count) where
+  pub start-there : 1 ≤ w → n * w + w ≤ length starts
+  start-there least = standing-there (record { within = omega arith; place-is = refl }) starts least (seen .starts-in) h
+
+  pub start-fits : 1 ≤ w → Fits w64 (n * w)
+  start-fits least = let there = start-there least in let few = seen .starts-small in record { fits = omega arith }
+
+module _ {levels : ℕ} {s ranks : List ℕ} {c i w : ℕ} {area starts out₀ out : List ℕ} {count end start k room : ℕ}
+    (seen : ChildrenSeen levels s ranks c i w area starts out₀ out count end start k) (holding : Holding levels s ranks c i w room end)
     (h : 0 < k) where
   least : 1 ≤ w
   least = holding .container .least
 
-  one-less : k * w ≡ (k - 1) * w + w
-  one-less = ap (λ (n : ℕ). n * w) (let e : k ≡ suc (k - 1) = omega arith in e) ∙ suc-mul (k - 1) w
+  standing : Standing w count ((k - 1) * w) (k - 1)
+  standing = let in-all = seen .within in record { within = omega arith; place-is = refl }
 
-  pub place-less : w ≤ place
-  place-less = let is = seen .place-is in let less = one-less in omega arith
-
-  standing : Standing w count (place - w) (k - 1)
-  standing = let is = seen .place-is in let less = one-less in let in-all = seen .within in record { within = omega arith; place-is = omega arith }
-
-  pub read-there : place - w + w ≤ length starts
-  read-there = let in-all = seen .within in standing-there standing starts least (seen .starts-in) (omega arith)
-
-  module _ (child : ℕ) (is : child ≡ numberAt starts (place - w) w) where
+  module _ (child : ℕ) (is : child ≡ numberAt starts ((k - 1) * w) w) where
     here : getD (startsOf c i w s) (k - 1) 0 ≡ child
     here =
         let in-all = seen .within in
@@ -121,7 +114,7 @@ module _ {levels : ℕ} {s ranks : List ℕ} {c i w : ℕ} {area starts out₀ o
         let in-all = seen .within in
         let many = starts-many in
         let f = partAt (rewritten levels ranks) (areaOf c i w s) in
-        let size : length parts ≡ count = length-map (startsOf c i w s) f ∙ many in
+        let size : length parts ≡ count = parts-length (rewritten levels ranks) c i w s ∙ many in
         let at-it : getD parts (k - 1) (f 0) ≡ f child = List·getD-map f (startsOf c i w s) (k - 1) 0 ∙ ap f here in
         let next : suc (k - 1) ≡ k = omega arith in
         drop-cons parts (k - 1) (f 0) (omega arith)
@@ -145,7 +138,8 @@ module _ {levels : ℕ} {s ranks : List ℕ} {c i w : ℕ} {area starts out₀ o
         part-bytes : partAt (rewritten levels ranks) area child ≡ rewritten levels ranks (take (child + size - child) (drop child area))
         part-bytes = part-is levels (holding .names) ranks area own ∙ ap (rewritten levels ranks) (sym bytes-same)
 
-        parts-size : length (joined (drop (k - 1) parts)) ≡ length (rewritten levels ranks (take (child + size - child) (drop child area))) + length (joined (drop k parts))
+        parts-size : length (joined (drop (k - 1) parts))
+            ≡ length (rewritten levels ranks (take (child + size - child) (drop child area))) + length (joined (drop k parts))
         unfolding joined
         parts-size =
             ap (λ (p : List (List ℕ)). length (joined p)) part-here
@@ -173,7 +167,7 @@ module _ {levels : ℕ} {s ranks : List ℕ} {c i w : ℕ} {area starts out₀ o
 
         pub children-next : length out₀ ≡ room → {after : List ℕ} {next : ℕ}
             → EndsAt (rewritten levels ranks (take (child + size - child) (drop child area))) out after start next
-            → ChildrenSeen levels s ranks c i w area starts out₀ after count end next (place - w) (k - 1)
+            → ChildrenSeen levels s ranks c i w area starts out₀ after count end next (k - 1)
         unfolding joined
         children-next room-is {after} {next} ended =
             let end-in = holding .within in
@@ -183,8 +177,8 @@ module _ {levels : ℕ} {s ranks : List ℕ} {c i w : ℕ} {area starts out₀ o
             let whole = ends-join (seen .ends) (omega arith) ended in
             record {
               within = omega arith;
-              place-is = standing .place-is;
               starts-in = seen .starts-in;
+              starts-small = seen .starts-small;
               same-area = seen .same-area;
               same-starts = seen .same-starts;
               small = seen .small;
@@ -192,9 +186,9 @@ module _ {levels : ℕ} {s ranks : List ℕ} {c i w : ℕ} {area starts out₀ o
               ends = rw (part-here, part-bytes) whole;
             }
 
-pub children-done : {levels : ℕ} {s ranks : List ℕ} {c i w : ℕ} {area starts out₀ out : List ℕ} {count end start place k : ℕ}
-    → ChildrenSeen levels s ranks c i w area starts out₀ out count end start place k → k ≤ 0
+pub children-done : {levels : ℕ} {s ranks : List ℕ} {c i w : ℕ} {area starts out₀ out : List ℕ} {count end start k : ℕ}
+    → ChildrenSeen levels s ranks c i w area starts out₀ out count end start k → k ≤ 0
     → EndsAt (joined (partsOf (rewritten levels ranks) c i w s)) out₀ out end start
-children-done {levels} {s} {ranks} {c} {i} {w} {area} {starts} {out₀} {out} {count} {end} {start} {place} {k} seen none =
+children-done {levels} {s} {ranks} {c} {i} {w} {area} {starts} {out₀} {out} {count} {end} {start} {k} seen none =
     let zero-left : k ≡ 0 = omega arith in
     subst (λ (n : ℕ). EndsAt (joined (drop n (partsOf (rewritten levels ranks) c i w s))) out₀ out end start) zero-left (seen .ends)

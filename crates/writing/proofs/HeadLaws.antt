@@ -35,7 +35,8 @@ module _ {out : List ℕ} {start end count : ℕ} (lying : Lying out start end c
   start-behind = let size = lying .lie .size in omega arith
 
   -- The head fits, with offsets of their width and ids of theirs.
-  module _ (counted id width : ℕ) (width-is : width ≡ smallestWidth (end - start)) (fits : headSize count counted id (smallestWidth (end - start)) ≤ start) where
+  module _ (counted id width : ℕ) (width-is : width ≡ smallestWidth (end - start))
+      (fits : headSize count counted id (smallestWidth (end - start)) ≤ start) where
     parts-fit : 1 + counted + count * id + (count + 1) * width ≤ start
     unfolding headSize
     parts-fit = rw width-is fits

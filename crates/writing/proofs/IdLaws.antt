@@ -90,7 +90,8 @@ pub record IdsSeen (ranks ids out₀ out : List ℕ) (id count width start end t
 pub ids-start : (ranks ids out : List ℕ) (id count width end : ℕ) → count * width ≤ end
     → IdsSeen ranks ids out out id count width (end - count * width) end (end - count * width) 0 0
 ids-start ranks ids out id count width end fits =
-    record { standing = standing-start id count; same-size = refl; size = omega arith; to-is = rw (let all : count - 0 ≡ count = omega arith in all) (omega arith); whole = refl }
+    let all : count - 0 ≡ count = omega arith in
+    record { standing = standing-start id count; same-size = refl; size = omega arith; to-is = rw all (omega arith); whole = refl }
 
 module _ {ranks ids out₀ out : List ℕ} {id count width start end to place i : ℕ}
     (seen : IdsSeen ranks ids out₀ out id count width start end to place i) (there : count * id ≤ length ids) (least : 1 ≤ id)
@@ -98,7 +99,8 @@ module _ {ranks ids out₀ out : List ℕ} {id count width start end to place i 
   module _ (h : i < count) where
     to-next : to + width + (count - (i + 1)) * width ≡ end
     to-next =
-        let more : (count - i) * width ≡ (count - (i + 1)) * width + width = rw (let one : count - i ≡ suc (count - (i + 1)) = omega arith in one, suc-mul) in
+        let one : count - i ≡ suc (count - (i + 1)) = omega arith in
+        let more : (count - i) * width ≡ (count - (i + 1)) * width + width = rw (one, suc-mul) in
         let is = seen .to-is in
         omega arith
 

@@ -50,7 +50,8 @@ module _ (levels : ℕ) (names : Dictionary) (ranks area : List ℕ) where
       (child-of more (rest .0) (rest .1) (goods .1) (belows .1))
     where
       at-place : (n : ℕ) → n < suc (length more) → WritableChild levels names ranks area start
-          → ((j : ℕ) → j < length more → WritableChild levels names ranks area (getD more j 0)) → WritableChild levels names ranks area (getD (start ∷ more) n 0)
+          → ((j : ℕ) → j < length more → WritableChild levels names ranks area (getD more j 0))
+          → WritableChild levels names ranks area (getD (start ∷ more) n 0)
       at-place zero l this others = this
       at-place (suc j) l this others = others j (omega arith)
 

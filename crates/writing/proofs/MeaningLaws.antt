@@ -71,7 +71,8 @@ module _ (names normal : Dictionary) (ranks : List ℕ) (decode : List ℕ → O
     (each : (s : List ℕ) (d : Doc) → decode s ≡ some d → Bytes s → length s ≤ 65536 → Right names normal ranks (idsWithin s)
     → write s ≡ valueBytes normal d)
     (area : List ℕ) (bytes : Bytes area) (small : length area ≤ 65536) where
-  part-written : (start size : ℕ) (d : Doc) → childExtent area start ≡ some size → decode (childBytes area (record { start = start; size = size })) ≡ some d
+  part-written : (start size : ℕ) (d : Doc) → childExtent area start ≡ some size
+      → decode (childBytes area (record { start = start; size = size })) ≡ some d
       → Right names normal ranks (idsWithin (childBytes area (record { start = start; size = size }))) → partAt write area start ≡ valueBytes normal d
   unfolding partAt sizedPart
   part-written start size d long meant right =
@@ -98,11 +99,12 @@ module _ (names normal : Dictionary) (ranks : List ℕ) (decode : List ℕ → O
       let right-all : Right names normal ranks (idsWithin (childBytes area child) ++ idsOfAll idsWithin area (rest .0)) =
       subst (λ (l : List Child). Right names normal ranks (idsOfAll idsWithin area l)) (sym is) right in
       let here = part-written start (first .0) (own .0) (first .1) (own .1) (right-front names normal ranks _ _ right-all) in
-      let behind = elements-written more (rest .0) (others .0) (rest .1) (others .1) (right-behind names normal ranks (idsWithin (childBytes area child)) _ right-all) in
+      let behind = elements-written more (rest .0) (others .0) (rest .1) (others .1)
+      (right-behind names normal ranks (idsWithin (childBytes area child)) _ right-all) in
       rw (here, behind) (ap (elementBytes normal) all)
 
-  members-written : (starts : List ℕ) (kids : List Child) (ns : List (List ℕ)) (fs : Fields) → length ns ≡ length starts → childrenAt area starts ≡ some kids
-      → memberDocs decode area ns kids ≡ some fs → Right names normal ranks (idsOfAll idsWithin area kids)
+  members-written : (starts : List ℕ) (kids : List Child) (ns : List (List ℕ)) (fs : Fields) → length ns ≡ length starts
+      → childrenAt area starts ≡ some kids → memberDocs decode area ns kids ≡ some fs → Right names normal ranks (idsOfAll idsWithin area kids)
       → (map (partAt write area) starts ≡ memberBytes normal fs) × (fieldNames fs ≡ ns)
   unfolding childrenAt memberDocs memberBytes fieldNames idsOfAll
   members-written [] kids [] fs same are meant right =

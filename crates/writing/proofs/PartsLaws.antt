@@ -1,22 +1,22 @@
 -- A container's parts once they are written: they lie there, so many, and what fits with them fits in front of them.
 use mathlib.Core.List.{List}
 use mathlib.Core.Path.{_≡_, refl, sym, ap, _∙_}
-use Prim.Native.Nat.{ℕ, _+_, _*_, _≤_}
+use Prim.Native.Nat.{ℕ, _+_, _≤_}
 use native.Mathlib.Omega.{arith}
-use lib.ListN.{length, drop, length-map}
+use lib.ListN.{length, drop}
 use lib.Seq.{drop-at, drop-drop}
-use Rattle.dictionary.proofs.NumbersRunLaws.{rest, run-length}
 use Rattle.forms.proofs.PartLaws.{AllFilled}
 use Rattle.paper.specs.Values.{areaOf, startsOf}
-use Rattle.paper.specs.Words.{at, numbers, joined}
-use Rattle.values.proofs.LayoutLaws.{starts-there, starts-same, area-same, area-small}
+use Rattle.paper.specs.Words.{at, joined}
+use Rattle.values.proofs.LayoutLaws.{area-same, area-small}
 use Rattle.values.specs.Layouts.{Container, LaidOut}
 use Rattle.values.specs.declared.shape.Layout.{Layout}
 use Rattle.writing.specs.Ends.{EndsAt, Lies, Lying}
-use Rattle.writing.specs.Rewritten.{partAt, partsOf, rewritten}
+use Rattle.writing.specs.Rewritten.{partsOf, rewritten}
 use Rattle.writing.specs.Written.{Holding}
 use Rattle.writing.proofs.EndLaws.{ends-behind, ends-length}
 use Rattle.writing.proofs.InsideLaws.{parts-filled}
+use Rattle.writing.proofs.RewrittenLaws.{parts-counted}
 
 module _ {levels : ℕ} {s ranks : List ℕ} {c i w room end : ℕ} (holding : Holding levels s ranks c i w room end) where
   abbrev parts : List (List ℕ)
@@ -24,14 +24,6 @@ module _ {levels : ℕ} {s ranks : List ℕ} {c i w room end : ℕ} (holding : H
 
   container : Container s c i w
   container = holding .container
-
-  pub parts-counted : (l : Layout) → LaidOut s c i w l → length parts ≡ l .count
-  unfolding partsOf
-  parts-counted l laid =
-      let there : l .count * w ≤ length (rest s (l .starts)) = rw (laid .width-is) at (starts-there s c i w container l laid) in
-      let same : numbers w (l .count) (rest s (l .starts)) ≡ startsOf c i w s = rw (laid .width-is) at (starts-same s c i w container l laid) in
-      length-map (startsOf c i w s) (partAt (rewritten levels ranks) (areaOf c i w s))
-      ∙ ap length (sym same) ∙ run-length w (l .count) (rest s (l .starts)) (container .least) there
 
   filled : (l : Layout) → LaidOut s c i w l → AllFilled parts
   unfolding partsOf
@@ -58,7 +50,7 @@ module _ {levels : ℕ} {s ranks : List ℕ} {c i w room end : ℕ} (holding : H
         record { filled = filled l laid; size = size; are = rw behind front; within = omega arith }
 
     pub parts-lying : Lying middle start end (l .count)
-    parts-lying = record { parts = parts; lie = parts-lie; count-is = parts-counted l laid }
+    parts-lying = record { parts = parts; lie = parts-lie; count-is = parts-counted (rewritten levels ranks) container l laid }
 
     pub parts-within : end ≤ length middle
     parts-within = parts-lie .within

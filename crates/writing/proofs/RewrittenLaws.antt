@@ -19,10 +19,13 @@ use Rattle.paper.specs.Meaning.{text}
 use Rattle.paper.specs.Metadata.{Dictionary}
 use Rattle.paper.specs.Normal.{textBytes, scalarBytes}
 use Rattle.paper.specs.Values.{extentBy, areaOf, startsOf, idsOf, meaningBy, meaningOf, whole}
-use Rattle.paper.specs.Words.{at, isThere}
+use Rattle.paper.specs.Words.{at, isThere, numbers}
 use Rattle.paper.specs.declared.Reading.the-variants.{Fixed, Prefixed, Short, ObjectHead, ArrayHead, Nothing}
 use Rattle.paper.specs.declared.Reading.{Reading}
-use Rattle.values.proofs.LayoutLaws.{ids-starts-length}
+use Rattle.values.proofs.LayoutLaws.{starts-there, starts-same, ids-starts-length}
+use Rattle.values.specs.Layouts.{Container, LaidOut}
+use Rattle.values.specs.declared.shape.Layout.{Layout}
+use Rattle.dictionary.proofs.NumbersRunLaws.{rest, run-length}
 use Rattle.values.proofs.PrimitiveLaws.{whole-extent}
 use Rattle.values.proofs.ValueLaws.{object-container, object-id}
 use Rattle.writing.specs.Rewritten.{ranksAt, shortened, partAt, partsOf, rewrittenBy, rewritten}
@@ -88,9 +91,22 @@ shortened-filled type s long fills small = go (eqb type 16) (leb (length s) 68) 
 
 -- ---- any value
 
-parts-length : (inner : List ℕ → List ℕ) (c i w : ℕ) (s : List ℕ) → length (partsOf inner c i w s) ≡ length (startsOf c i w s)
+-- As many parts as starts, as many as the count says, and as many as an object's ids.
+pub parts-length : (inner : List ℕ → List ℕ) (c i w : ℕ) (s : List ℕ) → length (partsOf inner c i w s) ≡ length (startsOf c i w s)
 unfolding partsOf
 parts-length inner c i w s = length-map (startsOf c i w s) (partAt inner (areaOf c i w s))
+
+module _ (inner : List ℕ → List ℕ) {s : List ℕ} {c i w : ℕ} (container : Container s c i w) where
+  pub parts-counted : (l : Layout) → LaidOut s c i w l → length (partsOf inner c i w s) ≡ l .count
+  parts-counted l laid =
+      let there : l .count * w ≤ length (rest s (l .starts)) = rw (laid .width-is) at (starts-there s c i w container l laid) in
+      let same : numbers w (l .count) (rest s (l .starts)) ≡ startsOf c i w s = rw (laid .width-is) at (starts-same s c i w container l laid) in
+      parts-length inner c i w s ∙ ap length (sym same) ∙ run-length w (l .count) (rest s (l .starts)) (container .least) there
+
+  pub ids-counted : (ranks : List ℕ) → 1 ≤ i → length (ranksAt ranks (idsOf c i s)) ≡ length (partsOf inner c i w s)
+  unfolding ranksAt
+  ids-counted ranks least =
+      length-map (idsOf c i s) (λ (id : ℕ). getD ranks id 0) ∙ ids-starts-length s c i w container least ∙ sym (parts-length inner c i w s)
 
 pub rewritten-filled : (levels : ℕ) (names : Dictionary) (ranks s : List ℕ) → isThere (meaningOf levels names s) ≡ true → length s ≤ 65536
     → length (rewritten levels ranks s) < 2 ^ 32 → Filled (rewritten levels ranks s)
@@ -118,8 +134,7 @@ rewritten-filled levels names ranks s e small fit = go (readingOf (at s 0)) refl
     go (ObjectHead c i w) is =
         let container = object-container s (open-it .fills) (ObjectHead c i w) is c i w refl small in
         let least = object-id s (open-it .fills) (ObjectHead c i w) is c i w refl in
-        let same : length (ranksAt ranks (idsOf c i s)) ≡ length (partsOf inner c i w s) =
-        length-map (idsOf c i s) (λ (id : ℕ). getD ranks id 0) ∙ ids-starts-length s c i w container least ∙ sym (parts-length inner c i w s) in
+        let same = ids-counted inner container ranks least in
         by-reading (ObjectHead c i w) is
         (object-filled (ranksAt ranks (idsOf c i s)) (partsOf inner c i w s) same (rw (same-by open-it (ObjectHead c i w) is) at fit))
     go (ArrayHead c w) is =

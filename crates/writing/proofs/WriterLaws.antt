@@ -4,7 +4,7 @@ use mathlib.Core.List.{List, _++_}
 use mathlib.Core.Path.{_≡_, sym, ap, _∙_}
 use Prim.Native.Nat.{ℕ, _+_, _-_, _*_, _≤_, _<_}
 use native.Mathlib.Omega.{arith}
-use lib.ListN.{length, length-append, length-map}
+use lib.ListN.{length, length-append}
 use Rattle.dictionary.proofs.NumbersRunLaws.{rest}
 use Rattle.forms.proofs.ContainerLaws.{array-length, object-length}
 use Rattle.marking.specs.Ids.{idsInside, idsBy, idsIn}
@@ -25,13 +25,13 @@ use Rattle.values.specs.Layouts.{Container, LaidOut}
 use Rattle.values.specs.declared.shape.Layout.{Layout}
 use Rattle.writing.specs.Ends.{EndsAt, Lies, Lying}
 use Rattle.writing.specs.Heads.{arrayHead, objectHead}
-use Rattle.writing.specs.Rewritten.{ranksAt, shortened, partAt, partsOf, rewrittenBy, rewritten}
+use Rattle.writing.specs.Rewritten.{ranksAt, shortened, partsOf, rewrittenBy, rewritten}
 use Rattle.writing.specs.Written.{Writable, Holding}
 use Rattle.writing.proofs.EndLaws.{ends-join}
 use Rattle.writing.proofs.HeadLaws.{array-split, object-split}
 use Rattle.writing.proofs.InsideLaws.{below-append, each-child}
-use Rattle.writing.proofs.PartsLaws.{parts-counted, in-room, parts-lie, parts-lying, parts-within, head-fits}
-use Rattle.writing.proofs.RewrittenLaws.{OneLevel, one-level, same-by, ids-by, there-by, nothing-never, prefix-there}
+use Rattle.writing.proofs.PartsLaws.{in-room, parts-lie, parts-lying, parts-within, head-fits}
+use Rattle.writing.proofs.RewrittenLaws.{parts-counted, ids-counted, OneLevel, one-level, same-by, ids-by, there-by, nothing-never, prefix-there}
 
 module _ {levels : ℕ} {s ranks : List ℕ} {room end : ℕ} (ready : Writable levels s ranks room end) where
   told : OneLevel levels (ready .names) ranks s
@@ -100,7 +100,8 @@ module _ {levels : ℕ} {s ranks : List ℕ} {room end : ℕ} (ready : Writable 
           let ids : idsIn levels s ≡ idsInside (idsIn (levels - 1)) (areaOf c 0 w s) (childrenAt (areaOf c 0 w s) (startsOf c 0 w s)) =
           ids-by told (ArrayHead c w) (sym e ∙ is) in
           let all : List (List ℕ) = partsOf (rewritten (levels - 1) ranks) c 0 w s in
-          let size : length (arrayBytes all) ≡ length (arrayHead all) + length (joined all) = ap length (array-split all) ∙ length-append (arrayHead all) (joined all) in
+          let size : length (arrayBytes all) ≡ length (arrayHead all) + length (joined all) =
+          ap length (array-split all) ∙ length-append (arrayHead all) (joined all) in
           let fit = array-fits in
           record {
             container = array-laid;
@@ -122,7 +123,7 @@ module _ {levels : ℕ} {s ranks : List ℕ} {room end : ℕ} (ready : Writable 
         pub array-room : headSize (l .count) (countSize (largeBit (l .count))) 0 (smallestWidth (end - start)) ≤ start
         array-room =
             let all : List (List ℕ) = partsOf (rewritten (levels - 1) ranks) c 0 w s in
-            let counted : length all ≡ l .count = parts-counted array-holding l laid in
+            let counted : length all ≡ l .count = parts-counted (rewritten (levels - 1) ranks) array-laid l laid in
             let size = ended .size in
             let wide : end - start ≡ length (joined all) = omega arith in
             let long = array-length all in
@@ -134,7 +135,7 @@ module _ {levels : ℕ} {s ranks : List ℕ} {room end : ℕ} (ready : Writable 
         unfolding rewrittenBy
         array-ends head =
             let all : List (List ℕ) = partsOf (rewritten (levels - 1) ranks) c 0 w s in
-            let front = head all (parts-lie array-holding l laid room-is ended) (parts-counted array-holding l laid) in
+            let front = head all (parts-lie array-holding l laid room-is ended) (parts-counted (rewritten (levels - 1) ranks) array-laid l laid) in
             let within = in-room array-holding l laid room-is ended in
             rw (same (ArrayHead c w) e, array-split all) (ends-join ended within front)
 
@@ -167,7 +168,8 @@ module _ {levels : ℕ} {s ranks : List ℕ} {room end : ℕ} (ready : Writable 
 
       pub object-holding : Holding (levels - 1) s ranks c i w room end
       object-holding =
-          let verdict = object-verdict (meaningOf (levels - 1) (ready .names)) (ready .names) s c i w (ids-starts-length s c i w object-laid object-least) in
+          let verdict = object-verdict (meaningOf (levels - 1) (ready .names)) (ready .names) s c i w
+          (ids-starts-length s c i w object-laid object-least) in
           let first = and-both (allBelow (length (ready .names)) (idsOf c i s) && rising (namesAt (ready .names) (idsOf c i s))) _
           (sym verdict ∙ there-by told (ObjectHead c i w) (sym e ∙ is)) in
           let second = and-both (onceIn (length (areaOf c i w s)) (childrenAt (areaOf c i w s) (startsOf c i w s))) _ (first .1) in
@@ -203,20 +205,14 @@ module _ {levels : ℕ} {s ranks : List ℕ} {room end : ℕ} (ready : Writable 
           pub object-within : end ≤ length middle
           object-within = parts-within object-holding l laid room-is ended
 
-          ids-counted : length (ranksAt ranks (idsOf c i s)) ≡ length (partsOf (rewritten (levels - 1) ranks) c i w s)
-          unfolding ranksAt partsOf
-          ids-counted =
-              length-map (idsOf c i s) _ ∙ ids-starts-length s c i w object-laid object-least
-              ∙ sym (length-map (startsOf c i w s) (partAt (rewritten (levels - 1) ranks) (areaOf c i w s)))
-
           pub object-room : headSize (l .count) (countSize (largeBit (l .count)))
               (smallestWidth (largest (ranksAt ranks (numbers i (l .count) (rest s (1 + c)))))) (smallestWidth (end - start)) ≤ start
           object-room =
               let all : List (List ℕ) = partsOf (rewritten (levels - 1) ranks) c i w s in
-              let counted : length all ≡ l .count = parts-counted object-holding l laid in
+              let counted : length all ≡ l .count = parts-counted (rewritten (levels - 1) ranks) object-laid l laid in
               let size = ended .size in
               let wide : end - start ≡ length (joined all) = omega arith in
-              let long = object-length (ranksAt ranks (idsOf c i s)) all ids-counted in
+              let long = object-length (ranksAt ranks (idsOf c i s)) all (ids-counted (rewritten (levels - 1) ranks) object-laid ranks object-least) in
               rw (wide, ids-read, ← counted) (head-fits object-holding l laid room-is ended _ object-fits long)
 
           pub object-ends : {last : List ℕ} {first : ℕ}
@@ -227,6 +223,6 @@ module _ {levels : ℕ} {s ranks : List ℕ} {room end : ℕ} (ready : Writable 
           object-ends {last} {first} head =
               let all : List (List ℕ) = partsOf (rewritten (levels - 1) ranks) c i w s in
               let front : EndsAt (objectHead (ranksAt ranks (idsOf c i s)) all) middle last start first =
-              rw ids-read at (head all (parts-lie object-holding l laid room-is ended) (parts-counted object-holding l laid)) in
+              rw ids-read at (head all (parts-lie object-holding l laid room-is ended) (parts-counted (rewritten (levels - 1) ranks) object-laid l laid)) in
               let within = in-room object-holding l laid room-is ended in
               rw (same (ObjectHead c i w) e, object-split (ranksAt ranks (idsOf c i s)) all) (ends-join ended within front)

@@ -62,12 +62,12 @@ pub fn object_head(
     requires { ⌜ (count * id ≤ length (now ids)) × (1 ≤ id) × (id ≤ 4) × (allBelow (length (now ranks)) (numbers id count (now ids)) ≡ true) ⌝ }
     ensures { λ r. ⌜ ((parts : List (List ℕ)) → Lies (now (out .entry)) start end parts → length parts ≡ count → EndsAt (objectHead (ranksAt (now (ranks .entry)) (numbers id count (now (ids .entry)))) parts) (now (out .entry)) (now (out .exit)) start r) ⌝ }
 {
-    let width = numbers::width_of(end - start);
-    let offsets = write_offsets(readings, count, width, out, start, end);
+    let offset_width = numbers::width_of(end - start);
+    let offsets = write_offsets(readings, count, offset_width, out, start, end);
     let id_width = numbers::width_of(largest_of(ranks, ids, id, count));
     let named = write_ids(ranks, ids, id, count, id_width, out, offsets);
     opened(
-        2 + 4 * (width - 1) + 16 * (id_width - 1),
+        2 + 4 * (offset_width - 1) + 16 * (id_width - 1),
         64,
         count,
         out,

@@ -1,20 +1,14 @@
 // An object's ids, each changed to its normal id.
 ghost use mathlib.Core.Path.{_≡_};
 ghost use mathlib.Core.Bool.{true};
-ghost use Prim.Native.Nat.{_*_, _≤_, _<_, max};
-ghost use lib.ListN.{length, getD};
+ghost use Prim.Native.Nat.{_*_, _≤_, max};
+ghost use lib.ListN.{length};
 ghost use Rattle.paper.specs.Normal.{largest, numbersBytes};
 ghost use Rattle.paper.specs.Words.{numbers, allBelow};
 ghost use Rattle.writing.specs.Ends.{EndsAt};
 ghost use Rattle.writing.specs.Rewritten.{ranksAt};
-
-// The normal id of an id.
-fn normal_of(ranks: &[u16], id: usize) -> usize
-    requires { ⌜ id < length (now ranks) ⌝ }
-    ensures { λ r. ⌜ r ≡ getD (now (ranks .entry)) id 0 ⌝ }
-{
-    ranks[id] as usize
-}
+use ranking::InputId;
+use ranking::normal_of;
 
 // The larger of two numbers.
 fn larger(a: usize, b: usize) -> usize
@@ -32,7 +26,9 @@ pub fn largest_of(ranks: &[u16], ids: &[u8], id: usize, count: usize) -> usize
     let mut place = 0;
     let mut i = 0;
     while i < count {
-        most = larger(most, normal_of(ranks, numbers::read(ids, place, id)));
+        let input = numbers::read(ids, place, id);
+        let normal = normal_of(ranks, InputId(input));
+        most = larger(most, normal.0);
         place += id;
         i += 1;
     }
@@ -58,8 +54,9 @@ pub fn write_ids(
     let mut place = 0;
     let mut i = 0;
     while i < count {
-        let rank = normal_of(ranks, numbers::read(ids, place, id));
-        numbers::write(out, to, width, rank);
+        let input = numbers::read(ids, place, id);
+        let normal = normal_of(ranks, InputId(input));
+        numbers::write(out, to, width, normal.0);
         to += width;
         place += id;
         i += 1;

@@ -40,11 +40,9 @@ fn children(
     let area = &s[from..];
     let starts = &s[at..];
     let mut start = end;
-    let mut place = count * width;
     let mut i = count;
     while 0 < i {
-        place -= width;
-        let child = numbers::read(starts, place, width);
+        let child = numbers::read(starts, (i - 1) * width, width);
         let Extent::Size(size) = values::child_extent(readings, area, child) else {
             return start;
         };

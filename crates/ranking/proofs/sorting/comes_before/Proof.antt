@@ -25,15 +25,21 @@ enum-told-3 c = search needs
 
 returns : tie.Need-returns
 unfolding isLess
-returns c = compared _ _ _ _ (c .before .before .before .before .name .ensures) (c .before .before .before .name2 .ensures) _ _ (c .before .before .compare .ensures) (c .enum-told .given .1)
+returns c =
+    let asked = c .before .before in
+    compared _ _ _ _ (asked .before .before .name .ensures) (asked .before .name2 .ensures) _ _ (asked .compare .ensures) (c .enum-told .given .1)
 
 returns-2 : tie.Need-returns-2
 unfolding isLess
-returns-2 c = compared _ _ _ _ (c .before .before .before .before .name .ensures) (c .before .before .before .name2 .ensures) _ _ (c .before .before .compare .ensures) (c .enum-told2 .given .1)
+returns-2 c =
+    let asked = c .before .before in
+    compared _ _ _ _ (asked .before .before .name .ensures) (asked .before .name2 .ensures) _ _ (asked .compare .ensures) (c .enum-told2 .given .1)
 
 returns-3 : tie.Need-returns-3
 unfolding isLess
-returns-3 c = compared _ _ _ _ (c .before .before .before .before .name .ensures) (c .before .before .before .name2 .ensures) _ _ (c .before .before .compare .ensures) (c .enum-told3 .given .1)
+returns-3 c =
+    let asked = c .before .before in
+    compared _ _ _ _ (asked .before .before .name .ensures) (asked .before .name2 .ensures) _ _ (asked .compare .ensures) (c .enum-told3 .given .1)
 
 pub comes-before-spec : {M : Type 1} → statement M
 comes-before-spec =

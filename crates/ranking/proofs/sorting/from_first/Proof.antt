@@ -19,8 +19,11 @@ entry-requires-2 c κs = search needs
 
 comes-before-requires : tie.Need-comes-before-requires
 comes-before-requires c κs =
-    let pre = c .before .before .before .before .before .before .before .pre in
-    (pre .0, entry-below _ _ _ _ (pre .2) (c .before .before .if2 .left) (c .before .entry .ensures), entry-below _ _ _ _ (pre .1) (c .before .before .before .if1 .left) (c .entry2 .ensures))
+    let pre = c .before .before .before .before .before .before .before .pre in (
+      pre .0,
+      entry-below _ _ _ _ (pre .2) (c .before .before .if2 .left) (c .before .entry .ensures),
+      entry-below _ _ _ _ (pre .1) (c .before .before .before .if1 .left) (c .entry2 .ensures),
+    )
 
 returns-3 : tie.Need-returns-3
 returns-3 c = search (needs, takes-lower)

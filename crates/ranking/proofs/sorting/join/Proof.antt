@@ -1,12 +1,8 @@
 -- `join`: the run stands in front of the spare room, and its parts are merged from there.
-use mathlib.Core.List.{List}
-use mathlib.Core.Path.{sym, ap, _∙_}
-use Prim.Native.Nat.{ℕ}
+use mathlib.Core.Path.{sym, ap}
 use borrow.Author.Needs.{needs}
-use lib.ListN.{length, take, drop}
-use Rattle.paper.specs.Metadata.{namesIn}
-use Rattle.ranking.specs.Merging.{merged}
-use Rattle.ranking.proofs.HalfLaws.{copied-front, copied-fits}
+use lib.ListN.{length}
+use Rattle.ranking.proofs.HalfLaws.{copied-front, copied-merged, copied-fits}
 use Rattle.ranking.proofs.sorting.join.Statement.{statement}
 use Rattle.ranking.proofs.sorting.join.Tie as tie
 
@@ -17,7 +13,9 @@ slice-reshare-prefix-merge-halves : tie.Need-slice-reshare-prefix-merge-halves
 slice-reshare-prefix-merge-halves c = search needs
 
 slice-aggregate-merge-halves : tie.Need-slice-aggregate-merge-halves
-slice-aggregate-merge-halves c = sym (ap length (copied-front (c .before .before .before .before .before .before .before .before .before .args .ids .now) (c .before .before .before .before .before .before .before .before .before .args .spare .now) _ (c .before .before .before .copy .ensures)))
+slice-aggregate-merge-halves c =
+    let lent = c .before .before .before .before .before .before .before .before .before .args in
+    sym (ap length (copied-front (lent .ids .now) (lent .spare .now) _ (c .before .before .before .copy .ensures)))
 
 merge-halves-requires : tie.Need-merge-halves-requires
 merge-halves-requires c κs =
@@ -35,8 +33,8 @@ same-length-2 c = search needs
 returns : tie.Need-returns
 returns c =
     let lent = c .before .before .before .before .before .before .before .before .before .before .before .before .before .args in
-    let front = copied-front (lent .ids .now) (lent .spare .now) _ (c .before .before .before .before .before .before .before .copy .ensures) in
-    c .before .before .merge-halves .ensures ∙ ap (λ (l : List ℕ). merged (namesIn (lent .metadata .now)) (take (lent .half) l) (drop (lent .half) l)) front
+    let copied = c .before .before .before .before .before .before .before .copy .ensures in
+    copied-merged (lent .ids .now) (lent .spare .now) _ copied _ (lent .half) (c .before .before .merge-halves .ensures)
 
 pub join-spec : {M : Type 1} → statement M
 join-spec =

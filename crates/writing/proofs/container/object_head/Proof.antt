@@ -69,8 +69,12 @@ same-length c = search needs
 
 returns : tie.Need-returns
 returns c =
-    object-headed _ _ (c .before .before .before .before .before .before .before .before .before .before .before .before .before .before .width-of .ensures .0) (c .before .before .before .before .before .before .before .before .before .before .before .before .before .before .before .before .before .before .before .pre .0 .3) (c .before .before .before .before .before .before .before .before .before .before .before .before .write-offsets .ensures) _ _
-    (c .before .before .before .before .before .before .before .before .width-of2 .ensures .0 ∙ ap smallestWidth (c .before .before .before .before .before .before .before .before .before .largest-of .ensures)) (c .before .before .before .before .before .before .write-ids .ensures) (c .before .before .opened .ensures)
+    let ids = c .before .before .before .before .before .before in
+    let id-wide = ids .before .before in
+    let offsets = ids .before .before .before .before .before .before in
+    let wide = offsets .before .before in
+    object-headed _ _ (wide .width-of .ensures .0) (wide .before .before .before .before .before .pre .0 .3) (offsets .write-offsets .ensures) _ _
+    (id-wide .width-of2 .ensures .0 ∙ ap smallestWidth (id-wide .before .largest-of .ensures)) (ids .write-ids .ensures) (c .before .before .opened .ensures)
 
 pub object-head-spec : {M : Type 1} → statement M
 object-head-spec =

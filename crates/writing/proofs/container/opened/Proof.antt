@@ -7,14 +7,14 @@ use Rattle.writing.proofs.container.opened.Statement.{statement}
 use Rattle.writing.proofs.container.opened.Tie as tie
 
 sub-start : tie.Need-sub-start
-sub-start c = search (needs, few-fits)
+sub-start c = few-fits _ (c .before .before .pre .1) (omega arith)
 
 add-write : tie.Need-add-write
 add-write c = search needs
 
 write-requires : tie.Need-write-requires
 write-requires c κs =
-    let least : 2 ≤ c .before .before .before .args .end = search (needs, few-fits) in
+    let least : 2 ≤ c .before .before .before .args .end = few-fits _ (c .before .before .before .pre .1) (omega arith) in
     (omega arith, search needs, search needs)
 
 write-requires-2 : tie.Need-write-requires-2
@@ -24,7 +24,10 @@ same-length : tie.Need-same-length
 same-length c = search needs
 
 returns : tie.Need-returns
-returns c = search (needs, opened-few)
+returns c =
+    let count = c .before .before .before .before .before .before in
+    let pre = count .before .before .before .before .pre in
+    opened-few _ _ _ (pre .0) (pre .1) (pre .2) (omega arith) (count .write .ensures) (c .before .before .write2 .ensures)
 
 sub-start-2 : tie.Need-sub-start-2
 sub-start-2 c = search (needs, many-fits)

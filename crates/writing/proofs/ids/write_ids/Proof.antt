@@ -43,7 +43,13 @@ loop-less : tie.Need-loop-less Inv-loop μ-loop
 loop-less c = search needs
 
 loop-again : tie.Need-loop-again Inv-loop μ-loop
-loop-again c = search (needs, ids-next)
+loop-again c =
+    let normal = c .before .before .before .before in
+    let turn = normal .before .before in
+    let loop = turn .before in
+    let pre = loop .before .before .before .before .pre in
+    ids-next (loop .loop .inv) (pre .0) (pre .1) (pre .8) (turn .loop-test .taken) _ (normal .before .read .ensures .0) _ (normal .normal-of .ensures)
+    (c .before .before .write .ensures)
 
 same-length : tie.Need-same-length Inv-loop μ-loop
 same-length c = search needs

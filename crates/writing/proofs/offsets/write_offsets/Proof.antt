@@ -42,13 +42,17 @@ same-length c = search needs
 
 returns : tie.Need-returns Inv-loop μ-loop
 returns c =
-    offsets-lost (c .before .before .before .before .before .before .before .before .before .loop .inv) (c .before .before .before .before .before .before .write .ensures) (c .before .before .before .before .before .before .before .before .loop-test .taken) _ (c .before .before .child-extent .ensures)
-    (c .enum-told .given .1)
+    let put = c .before .before .before .before .before .before in
+    let turn = put .before .before in
+    offsets-lost (turn .before .loop .inv) (put .write .ensures) (turn .loop-test .taken) _ (c .before .before .child-extent .ensures) (c .enum-told .given .1)
 
 add-child : tie.Need-add-child Inv-loop μ-loop
 add-child c =
-    child-fits (c .before .before .before .before .before .before .before .before .before .before .loop .inv) (c .before .before .before .before .before .before .before .before .before .before .before .before .before .pre .1) _ (c .before .before .before .before .before .before .before .write .ensures) (c .before .before .before .before .before .before .before .before .before .loop-test .taken) _ (c .before .before .before .child-extent .ensures) _
-    (c .before .size .given .1) (search needs)
+    let put = c .before .before .before .before .before .before .before in
+    let turn = put .before .before in
+    let loop = turn .before in
+    child-fits (loop .loop .inv) (loop .before .before .before .pre .1) _ (put .write .ensures) (turn .loop-test .taken) _
+    (c .before .before .before .child-extent .ensures) _ (c .before .size .given .1) (search needs)
 
 add-place : tie.Need-add-place Inv-loop μ-loop
 add-place c = search (needs, place-fits)
@@ -61,8 +65,11 @@ loop-less c = search needs
 
 loop-again : tie.Need-loop-again Inv-loop μ-loop
 loop-again c =
-    offsets-next (c .before .before .before .before .before .before .before .before .before .before .loop .inv) (c .before .before .before .before .before .before .before .write .ensures) (c .before .before .before .before .before .before .before .before .before .loop-test .taken) _ (c .before .before .before .child-extent .ensures) (c .before .before .before .before .before .before .before .before .before .before .before .before .before .pre .1) _
-    (c .before .size .given .1)
+    let put = c .before .before .before .before .before .before .before in
+    let turn = put .before .before in
+    let loop = turn .before in
+    offsets-next (loop .loop .inv) (put .write .ensures) (turn .loop-test .taken) _ (c .before .before .before .child-extent .ensures)
+    (loop .before .before .before .pre .1) _ (c .before .size .given .1)
 
 sub-write-2 : tie.Need-sub-write-2 Inv-loop μ-loop
 sub-write-2 c = search (needs, last-behind)

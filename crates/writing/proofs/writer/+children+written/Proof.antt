@@ -8,7 +8,7 @@ use borrow.Fn.Kinds.{In}
 use borrow.Fn.PlainCycle.{Measures, is, falls, and}
 use Rattle.values.proofs.InsideLaws.{child-end, child-in}
 use Rattle.values.proofs.LayoutLaws.{starts-in, layout-few}
-use Rattle.writing.proofs.ChildrenLaws.{ChildrenSeen, count-fits, children-start, place-less, read-there, child-lost, child-ready, children-next, children-done}
+use Rattle.writing.proofs.ChildrenLaws.{ChildrenSeen, children-start, start-there, start-fits, child-lost, child-ready, children-next, children-done}
 use Rattle.writing.proofs.WriterLaws.{level-some, first-there, fixed-fits, short-fits, prefixed-there, prefixed-fits, fixed-ends, short-ends, prefixed-ends, nothing-ends, array-laid, array-holding, array-lying, array-within, array-room, array-ends, object-laid, object-start, object-least, object-most, object-holding, object-ids, object-ranked, object-lying, object-within, object-room, object-ends}
 use Rattle.writing.proofs.writer.children.Reads as children
 use Rattle.writing.proofs.writer.children.Kinds as children-kinds
@@ -78,11 +78,11 @@ written-claims t = (
 )
 
 abbrev children-Inv-loop : children-lts.InvT-loop
-children-Inv-loop levels readings ranks s counted id width out₀ end from at count area starts start₀ place₀ i₀ out start place i =
-    ChildrenSeen levels s ranks counted id width area starts out₀ out count end start place i
+children-Inv-loop levels readings ranks s counted id width out₀ end from at count area starts start₀ i₀ out start i =
+    ChildrenSeen levels s ranks counted id width area starts out₀ out count end start i
 
 abbrev children-μ-loop : children-lts.MeasureT-loop
-children-μ-loop levels readings ranks s counted id width out₀ end from at count area starts start₀ place₀ i₀ out start place i = i
+children-μ-loop levels readings ranks s counted id width out₀ end from at count area starts start₀ i₀ out start i = i
 
 children-layout-of-requires : (t : ℕ) → children-lts.Need-layout-of-requires (children-claims t) (children-at t) children.Post children-Inv-loop children-μ-loop
 children-layout-of-requires t c κs = search needs
@@ -105,19 +105,19 @@ children-part-starts-start t c = search (needs, starts-in)
 children-part-starts-end : (t : ℕ) → children-lts.Need-part-starts-end (children-claims t) (children-at t) children.Post children-Inv-loop children-μ-loop
 children-part-starts-end t c = search needs
 
-children-mul-place : (t : ℕ) → children-lts.Need-mul-place (children-claims t) (children-at t) children.Post children-Inv-loop children-μ-loop
-children-mul-place t c = search (needs, count-fits)
-
 children-loop-holds : (t : ℕ) → children-lts.Need-loop-holds (children-claims t) (children-at t) children.Post children-Inv-loop children-μ-loop
 children-loop-holds t c = search (needs, children-start)
 
-children-sub-place : (t : ℕ) → children-lts.Need-sub-place (children-claims t) (children-at t) children.Post children-Inv-loop children-μ-loop
-children-sub-place t c = place-less (c .before .loop .inv) (c .before .before .before .before .before .before .before .before .before .pre .1 .1) (c .loop-test .taken)
+children-sub-read : (t : ℕ) → children-lts.Need-sub-read (children-claims t) (children-at t) children.Post children-Inv-loop children-μ-loop
+children-sub-read t c = search needs
+
+children-mul-read : (t : ℕ) → children-lts.Need-mul-read (children-claims t) (children-at t) children.Post children-Inv-loop children-μ-loop
+children-mul-read t c = start-fits (c .before .loop .inv) _ (omega arith) (c .before .before .before .before .before .before .before .before .before .pre .1 .1 .container .least)
 
 children-read-requires : (t : ℕ) → children-lts.Need-read-requires (children-claims t) (children-at t) children.Post children-Inv-loop children-μ-loop
 children-read-requires t c κs =
-    let holding = c .before .before .before .before .before .before .before .before .before .pre .1 .1 in
-    (read-there (c .before .loop .inv) holding (c .loop-test .taken), holding .container .least, holding .container .most)
+    let container = c .before .before .before .before .before .before .before .before .before .pre .1 .1 .container in
+    (start-there (c .before .loop .inv) _ (omega arith) (container .least), container .least, container .most)
 
 children-child-extent-requires : (t : ℕ) → children-lts.Need-child-extent-requires (children-claims t) (children-at t) children.Post children-Inv-loop children-μ-loop
 children-child-extent-requires t c κs = search needs
@@ -133,7 +133,10 @@ children-same-length t c = search needs
 
 children-returns : (t : ℕ) → children-lts.Need-returns (children-claims t) (children-at t) children.Post children-Inv-loop children-μ-loop
 children-returns t c =
-    child-lost (c .before .before .before .before .before .loop .inv) (c .before .before .before .before .before .before .before .before .before .before .before .before .before .pre .1 .1) (c .before .before .before .before .loop-test .taken) _ (c .before .before .before .read .ensures .0) _ (c .before .before .child-extent .ensures)
+    let told = c .before .before in
+    let turn = told .before .before in
+    let loop = turn .before in
+    child-lost (loop .loop .inv) (loop .before .before .before .before .before .before .before .before .pre .1 .1) (turn .loop-test .taken) _ (told .before .read .ensures .0) _ (told .child-extent .ensures)
     (c .enum-told .given .1)
 
 children-add-to : (t : ℕ) → children-lts.Need-add-to (children-claims t) (children-at t) children.Post children-Inv-loop children-μ-loop
@@ -150,14 +153,14 @@ children-part-written-end t c = search (needs, child-in)
 
 children-written-requires : (t : ℕ) → children-lts.Need-written-requires (children-claims t) (children-at t) children.Post children-Inv-loop children-μ-loop
 children-written-requires t c κs =
-    let pre = c .before .before .before .before .before .before .before .before .before .before .before .before .before .before .before .before .pre in (
-      omega (arith, pre .0),
-      (
-        pre .1 .0,
-        child-ready (c .before .before .before .before .before .before .before .before .loop .inv) (pre .1 .1) (c .before .before .before .before .before .before .before .loop-test .taken) _ (c .before .before .before .before .before .before .read .ensures .0) _
-            (c .before .before .before .before .before .child-extent .ensures) _ (c .before .before .before .size .given .1) refl,
-      ),
-    )
+    let sized = c .before .before .before in
+    let told = sized .before .before in
+    let turn = told .before .before in
+    let loop = turn .before in
+    let pre = loop .before .before .before .before .before .before .before .before .pre in
+    let ready = child-ready (loop .loop .inv) (pre .1 .1) (turn .loop-test .taken) _ (told .before .read .ensures .0) _ (told .child-extent .ensures) _
+    (sized .size .given .1) refl in
+    (omega (arith, pre .0), (pre .1 .0, ready))
 
 children-sub-i : (t : ℕ) → children-lts.Need-sub-i (children-claims t) (children-at t) children.Post children-Inv-loop children-μ-loop
 children-sub-i t c = search needs
@@ -167,8 +170,12 @@ children-loop-less t c = search needs
 
 children-loop-again : (t : ℕ) → children-lts.Need-loop-again (children-claims t) (children-at t) children.Post children-Inv-loop children-μ-loop
 children-loop-again t c =
-    children-next (c .before .before .before .before .before .before .before .before .before .before .before .loop .inv) (c .before .before .before .before .before .before .before .before .before .before .before .before .before .before .before .before .before .before .before .pre .1 .1) (c .before .before .before .before .before .before .before .before .before .before .loop-test .taken) _ (c .before .before .before .before .before .before .before .before .before .read .ensures .0) _ (c .before .before .before .before .before .before .before .before .child-extent .ensures) _
-    (c .before .before .before .before .before .before .size .given .1) refl (c .before .before .written .ensures)
+    let sized = c .before .before .before .before .before .before in
+    let told = sized .before .before in
+    let turn = told .before .before in
+    let loop = turn .before in
+    children-next (loop .loop .inv) (loop .before .before .before .before .before .before .before .before .pre .1 .1) (turn .loop-test .taken) _ (told .before .read .ensures .0) _
+    (told .child-extent .ensures) _ (sized .size .given .1) refl (c .before .before .written .ensures)
 
 children-same-length-2 : (t : ℕ) → children-lts.Need-same-length-2 (children-claims t) (children-at t) children.Post children-Inv-loop children-μ-loop
 children-same-length-2 t c = search needs
@@ -212,7 +219,8 @@ written-sub-children t c = search (needs, level-some)
 written-children-requires : (t : ℕ) → written-lts.Need-children-requires (written-claims t) (written-at t) written.Post
 written-children-requires t c κs =
     let pre = c .before .before .before .before .before .before .before .before .before .before .before .pre in
-    (omega (arith, pre .0, level-some (pre .1 .1)), (pre .1 .0, object-holding (pre .1 .1) _ (c .before .before .before .before .before .reading-by .ensures) _ _ _ (c .before .before .before .says2 .given .1)))
+    let holding = object-holding (pre .1 .1) _ (c .before .before .before .before .before .reading-by .ensures) _ _ _ (c .before .before .before .says2 .given .1) in
+    (omega (arith, pre .0, level-some (pre .1 .1)), (pre .1 .0, holding))
 
 written-add-ids : (t : ℕ) → written-lts.Need-add-ids (written-claims t) (written-at t) written.Post
 written-add-ids t c = search needs
@@ -260,7 +268,8 @@ written-sub-children-2 t c = search (needs, level-some)
 written-children-requires-2 : (t : ℕ) → written-lts.Need-children-requires-2 (written-claims t) (written-at t) written.Post
 written-children-requires-2 t c κs =
     let pre = c .before .before .before .before .before .before .before .before .before .before .before .pre in
-    (omega (arith, pre .0, level-some (pre .1 .1)), (pre .1 .0, array-holding (pre .1 .1) _ (c .before .before .before .before .before .reading-by .ensures) _ _ (c .before .before .before .says3 .given .1)))
+    let holding = array-holding (pre .1 .1) _ (c .before .before .before .before .before .reading-by .ensures) _ _ (c .before .before .before .says3 .given .1) in
+    (omega (arith, pre .0, level-some (pre .1 .1)), (pre .1 .0, holding))
 
 written-array-head-requires : (t : ℕ) → written-lts.Need-array-head-requires (written-claims t) (written-at t) written.Post
 written-array-head-requires t c κs =
@@ -302,16 +311,24 @@ written-same-length-4 t c = search needs
 
 written-returns-4 : (t : ℕ) → written-lts.Need-returns-4 (written-claims t) (written-at t) written.Post
 written-returns-4 t c =
-    object-ends (c .before .before .before .before .before .before .before .before .before .before .before .before .before .before .before .before .before .before .before .pre .1 .1) _ (c .before .before .before .before .before .before .before .before .before .before .before .before .before .reading-by .ensures) _ _ _ (c .before .before .before .before .before .before .before .before .before .before .before .says2 .given .1) (c .before .before .before .before .before .before .before .before .before .layout-of .ensures) refl
-    (c .before .before .before .before .before .before .before .children .ensures) (c .before .before .object-head .ensures)
+    let inside = c .before .before .before .before .before .before .before in
+    let laid = inside .before .before in
+    let says = laid .before .before in
+    let read = says .before .before in
+    object-ends (read .before .before .before .before .before .before .pre .1 .1) _ (read .reading-by .ensures) _ _ _ (says .says2 .given .1) (laid .layout-of .ensures) refl
+    (inside .children .ensures) (c .before .before .object-head .ensures)
 
 written-same-length-5 : (t : ℕ) → written-lts.Need-same-length-5 (written-claims t) (written-at t) written.Post
 written-same-length-5 t c = search needs
 
 written-returns-5 : (t : ℕ) → written-lts.Need-returns-5 (written-claims t) (written-at t) written.Post
 written-returns-5 t c =
-    array-ends (c .before .before .before .before .before .before .before .before .before .before .before .before .before .before .before .before .before .before .pre .1 .1) _ (c .before .before .before .before .before .before .before .before .before .before .before .before .reading-by .ensures) _ _ (c .before .before .before .before .before .before .before .before .before .before .says3 .given .1) (c .before .before .before .before .before .before .before .before .layout-of2 .ensures) refl
-    (c .before .before .before .before .before .before .children2 .ensures) (c .before .before .array-head .ensures)
+    let inside = c .before .before .before .before .before .before in
+    let laid = inside .before .before in
+    let says = laid .before .before in
+    let read = says .before .before in
+    array-ends (read .before .before .before .before .before .before .pre .1 .1) _ (read .reading-by .ensures) _ _ (says .says3 .given .1) (laid .layout-of2 .ensures) refl
+    (inside .children2 .ensures) (c .before .before .array-head .ensures)
 
 written-returns-6 : (t : ℕ) → written-lts.Need-returns-6 (written-claims t) (written-at t) written.Post
 written-returns-6 t c = search (needs, nothing-ends)
@@ -329,9 +346,9 @@ pub +children+written-spec : {M : Type 1} → statement M
     (children-sub-starts t)
     (children-part-starts-start t)
     (children-part-starts-end t)
-    (children-mul-place t)
     (children-loop-holds t)
-    (children-sub-place t)
+    (children-sub-read t)
+    (children-mul-read t)
     (children-read-requires t)
     (children-child-extent-requires t)
     (children-enum-known-size t)
