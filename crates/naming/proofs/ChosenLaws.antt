@@ -2,18 +2,15 @@
 use mathlib.Core.List.{List, [], _∷_}
 use mathlib.Core.Path.{_≡_, sym, _∙_}
 use Prim.Native.Nat.{ℕ, _+_, _*_, _≤_, _<_}
-use native.Mathlib.Nat.{mul-le-mul-left}
 use native.Mathlib.Numerals.{add-one}
 use native.Mathlib.Omega.{arith}
-use mir.Syntax.{w64}
-use mir.Val.{Fits}
 use lib.ListN.{length, getD, take, drop, length-map, drop-of-length-le}
 use lib.Seq.{length-take-le, drop-cons, getD-take}
+use Rattle.dictionary.specs.Judging.{Opened}
 use Rattle.dictionary.specs.declared.Names.{Names}
 use Rattle.naming.specs.Chosen.{Chosen}
 use Rattle.paper.specs.Metadata.{Dictionary, namesIn}
 use Rattle.paper.specs.Values.{namesAt}
-use Rattle.dictionary.proofs.DictionaryLaws.{opened-width, opened-there}
 use Rattle.dictionary.proofs.NumbersRunLaws.{below-at}
 
 -- What is left of the names behind the first i.
@@ -30,15 +27,9 @@ module _ {metadata chosen : List ℕ} {names : Names} {count : ℕ} (is : Chosen
       let below : getD (take count chosen) i 0 < names .count = below-at (names .count) (take count chosen) i (is .known) (omega arith) in
       rw (sym (getD-take count chosen i 0 h)) below
 
-  -- It is small, since all the input's ids stand in the metadata.
-  pub id-fits : (i : ℕ) → i < count → Fits w64 (getD chosen i 0)
-  id-fits i h =
-      let known : getD chosen i 0 < names .count = id-known i h in
-      let there : 1 + names .width + (names .count + 1) * names .width ≤ length metadata = opened-there (is .opened) in
-      let some : 1 ≤ names .width = opened-width (is .opened) .0 in
-      let all : (names .count + 1) * 1 ≤ (names .count + 1) * names .width = mul-le-mul-left (names .count + 1) some in
-      let small = is .small in
-      record { fits = omega arith }
+  -- what the look-up of its name asks
+  pub name-asks : (i : ℕ) → i < count → Opened metadata names × (i < length chosen) × (getD chosen i 0 < names .count)
+  name-asks i h = let listed = is .listed in (is .opened, omega arith, id-known i h)
 
   pub names-next : (i : ℕ) → i < count
       → namesLeft metadata chosen count i ≡ getD (namesIn metadata) (getD chosen i 0) [] ∷ namesLeft metadata chosen count (i + 1)

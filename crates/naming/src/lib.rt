@@ -1,12 +1,24 @@
 // Normal metadata written: the names of chosen ids of lent metadata, in the order in which the ids are listed.
 use dictionary::Names;
+use ranking::NormalId;
+ghost use mathlib.Core.List.{[]};
 ghost use mathlib.Core.Path.{_≡_};
-ghost use Prim.Native.Nat.{_+_, _*_, _≤_, max};
-ghost use lib.ListN.{length};
+ghost use Prim.Native.Nat.{_+_, _*_, _≤_, _<_, max};
+ghost use lib.ListN.{length, getD};
 ghost use Rattle.numbers.specs.Little.{putAt, smallestWidth};
+ghost use Rattle.dictionary.specs.Judging.{Opened};
+ghost use Rattle.paper.specs.Metadata.{namesIn};
 ghost use Rattle.paper.specs.Words.{joined};
 ghost use Rattle.paper.specs.Normal.{offsetsFrom, numbersBytes, metadataBytes};
 ghost use Rattle.naming.specs.Chosen.{chosenNames, Chosen};
+
+// The name of a normal id: that of the input's id that was chosen for it.
+fn name_of<'a>(metadata: &'a [u8], names: Names, chosen: &[u16], id: NormalId) -> &'a [u8]
+    requires { ⌜ Opened (now metadata) names × (id .0 < length (now chosen)) × (getD (now chosen) (id .0) 0 < names .count) ⌝ }
+    ensures { λ r. ⌜ now r ≡ getD (namesIn (now (metadata .entry))) (getD (now (chosen .entry)) (id .0) 0) [] ⌝ }
+{
+    dictionary::name(metadata, names, ranking::input_of(chosen, id).0)
+}
 
 // How long the names are together.
 fn total_of(metadata: &[u8], names: Names, chosen: &[u16], count: usize) -> usize
@@ -16,7 +28,7 @@ fn total_of(metadata: &[u8], names: Names, chosen: &[u16], count: usize) -> usiz
     let mut total = 0;
     let mut i = 0;
     while i < count {
-        total += dictionary::name(metadata, names, chosen[i] as usize).len();
+        total += name_of(metadata, names, chosen, NormalId(i)).len();
         i += 1;
     }
     total
@@ -60,7 +72,7 @@ fn write_offsets(
     let mut i = 0;
     while i < count {
         numbers::write(out, at, width, total);
-        total += dictionary::name(metadata, names, chosen[i] as usize).len();
+        total += name_of(metadata, names, chosen, NormalId(i)).len();
         at += width;
         i += 1;
     }
@@ -82,7 +94,7 @@ fn write_names(
     let mut at = place;
     let mut i = 0;
     while i < count {
-        let name = dictionary::name(metadata, names, chosen[i] as usize);
+        let name = name_of(metadata, names, chosen, NormalId(i));
         numbers::put(out, at, name);
         at += name.len();
         i += 1;

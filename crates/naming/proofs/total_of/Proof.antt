@@ -1,7 +1,8 @@
 -- `total_of`: with the names that are left the total is that of all.
 use Prim.Native.Nat.{_-_}
+use native.Mathlib.Omega.{arith}
 use borrow.Author.Needs.{needs}
-use Rattle.naming.proofs.ChosenLaws.{id-known, id-fits}
+use Rattle.naming.proofs.ChosenLaws.{name-asks}
 use Rattle.naming.proofs.LoopLaws.{Summed, summed-start, summed-next, summed-done}
 use Rattle.naming.proofs.total_of.Statement.{statement}
 use Rattle.naming.proofs.total_of.Tie as tie
@@ -15,17 +16,8 @@ abbrev μ-loop : tie.MeasureT-loop
 loop-holds : tie.Need-loop-holds Inv-loop μ-loop
 loop-holds c = summed-start _ _ _
 
-mul-name : tie.Need-mul-name Inv-loop μ-loop
-mul-name c = search needs
-
-shared-slice-read-name : tie.Need-shared-slice-read-name Inv-loop μ-loop
-shared-slice-read-name c = search needs
-
-cast-name : tie.Need-cast-name Inv-loop μ-loop
-cast-name c = search (needs, id-fits)
-
-name-requires : tie.Need-name-requires Inv-loop μ-loop
-name-requires c κs = search (needs, id-known)
+name-of-requires : tie.Need-name-of-requires Inv-loop μ-loop
+name-of-requires c κs = name-asks (c .before .before .before .before .pre) _ (omega arith)
 
 add-total : tie.Need-add-total Inv-loop μ-loop
 add-total c = search needs
@@ -49,10 +41,7 @@ total-of-spec =
     Inv-loop
     μ-loop
     loop-holds
-    mul-name
-    shared-slice-read-name
-    cast-name
-    name-requires
+    name-of-requires
     add-total
     add-i
     loop-less

@@ -2,7 +2,7 @@
 use Prim.Native.Nat.{_-_}
 use native.Mathlib.Omega.{arith}
 use borrow.Author.Needs.{needs}
-use Rattle.naming.proofs.ChosenLaws.{id-known, id-fits}
+use Rattle.naming.proofs.ChosenLaws.{name-asks}
 use Rattle.naming.proofs.LoopLaws.{NamesPut, names-start, name-room, names-on, names-done}
 use Rattle.naming.proofs.write_names.Statement.{statement}
 use Rattle.naming.proofs.write_names.Tie as tie
@@ -16,19 +16,9 @@ abbrev μ-loop : tie.MeasureT-loop
 loop-holds : tie.Need-loop-holds Inv-loop μ-loop
 loop-holds c = search (needs, names-start)
 
-mul-name : tie.Need-mul-name Inv-loop μ-loop
-mul-name c = search needs
-
-shared-slice-read-name : tie.Need-shared-slice-read-name Inv-loop μ-loop
-shared-slice-read-name c = search needs
-
-cast-name : tie.Need-cast-name Inv-loop μ-loop
-cast-name c = id-fits (c .before .before .before .before .before .before .pre .0) _ (omega arith)
-
-name-requires : tie.Need-name-requires Inv-loop μ-loop
-name-requires c κs =
-    let pre = c .before .before .before .before .before .before .pre .0 in
-    (pre .opened, id-known pre _ (omega arith))
+name-of-requires : tie.Need-name-of-requires Inv-loop μ-loop
+name-of-requires c κs =
+    name-asks (c .before .before .before .before .before .pre .0) _ (omega arith)
 
 put-requires : tie.Need-put-requires Inv-loop μ-loop
 put-requires c κs = search (needs, name-room)
@@ -58,10 +48,7 @@ write-names-spec =
     Inv-loop
     μ-loop
     loop-holds
-    mul-name
-    shared-slice-read-name
-    cast-name
-    name-requires
+    name-of-requires
     put-requires
     add-at
     add-i

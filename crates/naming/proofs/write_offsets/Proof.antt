@@ -1,7 +1,8 @@
 -- `write_offsets`: the offsets that are left, put behind those that are written, make all.
 use Prim.Native.Nat.{_-_}
+use native.Mathlib.Omega.{arith}
 use borrow.Author.Needs.{needs}
-use Rattle.naming.proofs.ChosenLaws.{id-known, id-fits}
+use Rattle.naming.proofs.ChosenLaws.{name-asks}
 use Rattle.naming.proofs.LoopLaws.{OffsetsPut, offsets-start, offset-room, offsets-next, offsets-done}
 use Rattle.naming.proofs.write_offsets.Statement.{statement}
 use Rattle.naming.proofs.write_offsets.Tie as tie
@@ -18,17 +19,8 @@ loop-holds c = search (needs, offsets-start)
 write-requires : tie.Need-write-requires Inv-loop μ-loop
 write-requires c κs = search (needs, offset-room)
 
-mul-name : tie.Need-mul-name Inv-loop μ-loop
-mul-name c = search needs
-
-shared-slice-read-name : tie.Need-shared-slice-read-name Inv-loop μ-loop
-shared-slice-read-name c = search needs
-
-cast-name : tie.Need-cast-name Inv-loop μ-loop
-cast-name c = search (needs, id-fits)
-
-name-requires : tie.Need-name-requires Inv-loop μ-loop
-name-requires c κs = search (needs, id-known)
+name-of-requires : tie.Need-name-of-requires Inv-loop μ-loop
+name-of-requires c κs = name-asks (c .before .before .before .before .before .before .before .before .before .pre .0) _ (omega arith)
 
 add-total : tie.Need-add-total Inv-loop μ-loop
 add-total c = search needs
@@ -62,10 +54,7 @@ write-offsets-spec =
     μ-loop
     loop-holds
     write-requires
-    mul-name
-    shared-slice-read-name
-    cast-name
-    name-requires
+    name-of-requires
     add-total
     add-at
     add-i
