@@ -46,6 +46,3 @@ marked-clean size id ids h =
     go : (b : Bool) → _≡_ {A = ℕ} (cond b 1 0) (oneIf b)
     go true = refl
     go false = refl
-
-pub clean-length : (size : ℕ) (ids : List ℕ) → length (markIds (replicate size 0) ids) ≡ size
-clean-length size ids = marked-length (replicate size 0) ids ∙ length-replicate size (let clean : ℕ = 0 in clean)

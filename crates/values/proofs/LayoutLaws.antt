@@ -106,9 +106,6 @@ module _ (s : List ℕ) (c i w : ℕ) (container : Container s c i w) where
     pub starts-few : length (rest s (l .starts)) ≤ 65536
     starts-few = let small = container .small in rw (rest-is s (l .starts), length-drop) (omega arith)
 
-    pub area-room : (room : ℕ) → length s ≤ room → length (rest s (l .area)) ≤ room
-    area-room room h = rw (rest-is s (l .area), length-drop) (omega arith)
-
     -- what the callees ask
     pub lengths-asks : (l .count * l .width ≤ length (rest s (l .starts))) × (1 ≤ l .width) × (l .width ≤ 4) × (l .count ≤ 65536) × (length (rest s (l .area)) ≤ 65536)
     lengths-asks = (starts-there, width-there .0, width-there .1, layout-few, area-small)
