@@ -16,7 +16,7 @@ use Rattle.paper.specs.Limits.{mostMetadata, mostValue, mostLevels}
 use Rattle.paper.specs.Meaning.{Doc}
 use Rattle.paper.specs.Metadata.{Dictionary, dictionaryOf}
 use Rattle.paper.specs.Normal.{namesUsed, metadataWidth, metadataBytes, valueBytes, Document, normalForm}
-use Rattle.paper.specs.Operations.{judged, documentFits, written, normaliseOutcome}
+use Rattle.paper.specs.Operations.{judged, documentFits, checkOutcome, written, normaliseOutcome}
 use Rattle.paper.specs.Refusals.{Outcome, reached, unless, orElse}
 use Rattle.paper.specs.Values.{meaningOf}
 use Rattle.paper.specs.Words.{joined}
@@ -171,3 +171,25 @@ pub normal-again : (metadata value : List ℕ) (n : Document) → ((i : ℕ) →
     → normaliseOutcome (n .metadata) (n .value) ≡ reached n
 normal-again metadata value n bytes e =
     accepts (n .metadata) (n .value) n (accepted-again metadata value n (accepted metadata value n e) bytes)
+
+-- ---- lent documents: the same normal form exactly when they mean the same
+
+accepted-means : (metadata value : List ℕ) (n : Document) (a : Accepted metadata value n) → checkOutcome metadata value ≡ reached (a .d)
+unfolding checkOutcome documentFits judged unless orElse
+accepted-means metadata value n a =
+    rw (le-leb (length metadata) mostMetadata (a .metadata-fits), le-leb (length value) mostValue (a .value-fits), a .metadata-is, a .value-is)
+
+same-reached : {a b : Doc} → _≡_ {A = Outcome Doc} (reached a) (reached b) → a ≡ b
+same-reached e = cc
+
+pub same-meaning : (metadata value metadata′ value′ : List ℕ) → ((i : ℕ) → getD metadata i 0 < 256) → ((i : ℕ) → getD metadata′ i 0 < 256)
+    → (n n′ : Document) → normaliseOutcome metadata value ≡ reached n → normaliseOutcome metadata′ value′ ≡ reached n′
+    → (d d′ : Doc) → checkOutcome metadata value ≡ reached d → checkOutcome metadata′ value′ ≡ reached d′ → (n ≡ n′) ↔ (d ≡ d′)
+same-meaning metadata value metadata′ value′ bytes bytes′ n n′ e e′ d d′ means means′ =
+    let a : Accepted metadata value n = accepted metadata value n e in
+    let b : Accepted metadata′ value′ n′ = accepted metadata′ value′ n′ e′ in
+    let first : a .d ≡ d = same-reached (sym (accepted-means metadata value n a) ∙ means) in
+    let second : b .d ≡ d′ = same-reached (sym (accepted-means metadata′ value′ n′ b) ∙ means′) in
+    let same : (normalForm (a .d) ≡ normalForm (b .d)) ↔ (a .d ≡ b .d) =
+    same-normal mostLevels (a .d) (b .d) (accepted-writable metadata value n a bytes) (accepted-writable metadata′ value′ n′ b bytes′) in
+    rw (a .written-is, b .written-is, first, second) at same
