@@ -9,7 +9,7 @@ use Rattle.paper.specs.FirstBytes.{readingOf}
 use Rattle.paper.specs.Meaning.{Doc, object, Fields, noFields, field}
 use Rattle.paper.specs.Metadata.{Dictionary, rising}
 use Rattle.paper.specs.Paths.{childNamed}
-use Rattle.paper.specs.Shredding.{fieldAt}
+use Rattle.paper.specs.Standing.{fieldAt}
 use Rattle.paper.specs.Values.{Child, childBytes, childrenAt, everyByteOnce, areaOf, startsOf, idsOf, namesAt, membersOf, memberDocs, meaningBy, meaningOf}
 use Rattle.paper.specs.Words.{at, andThen, isThere, allBelow, same}
 use Rattle.paper.specs.declared.Reading.the-variants.{ObjectHead}

@@ -22,7 +22,7 @@ use Rattle.paper.specs.Metadata.{Dictionary, namesIn}
 use Rattle.paper.specs.Operations.{boxReadBy}
 use Rattle.paper.specs.Paths.{childNamed}
 use Rattle.paper.specs.Refusals.{reached}
-use Rattle.paper.specs.Shredding.{fieldAt}
+use Rattle.paper.specs.Standing.{fieldAt}
 use Rattle.paper.specs.Values.{Child, childBytes, headSize, areaOf, idsOf, namesAt, membersOf, meaningOf, whole}
 use Rattle.paper.specs.Words.{at, andThen, isThere}
 use Rattle.paper.specs.declared.BoxAnswer.{BoxAnswer}

@@ -12,12 +12,13 @@ use lib.Dec.{leb, eqb}
 use lib.ListN.{length, drop, length-drop}
 use Rattle.forms.specs.WellFormed.{namesThere}
 use Rattle.numbers.specs.Little.{smallestWidth}
+use Rattle.paper.proofs.MeaningLaws.{prefixedDoc, string-is, prefixed-is}
 use Rattle.paper.specs.FirstBytes.{readingOf}
 use Rattle.paper.specs.Limits.{mostMetadata, mostValue}
 use Rattle.paper.specs.Meaning.{boolean, payload, text, Doc, null, scalar, array, object, Docs, Fields}
 use Rattle.paper.specs.Metadata.{Dictionary, offsetSize, dictionaryOf}
 use Rattle.paper.specs.Normal.{namesUsed, normalForm, largest, prefixedBytes, textBytes, scalarBytes, idOf, fieldNames, valueBytes, elementBytes, memberBytes}
-use Rattle.paper.specs.Values.{Child, extentBy, areaOf, idsOf, namesAt, elementsOf, membersOf, primitiveMeaning, prefixedMeaning, elementDocs, memberDocs, meaningBy, meaningOf, whole}
+use Rattle.paper.specs.Values.{Child, extentBy, areaOf, idsOf, namesAt, elementsOf, membersOf, primitiveMeaning, elementDocs, memberDocs, meaningBy, meaningOf, whole}
 use Rattle.paper.specs.Words.{at, isThere}
 use Rattle.paper.specs.declared.Reading.the-variants.{Fixed, Prefixed, Short, ObjectHead, ArrayHead, Nothing}
 use Rattle.paper.specs.declared.Reading.{Reading}
@@ -62,8 +63,8 @@ module _ (used : Dictionary) where
       let type : ℕ = suc (suc (suc more)) in
       rw (← some-injective (scalar (payload type s)) d (given-some _ (some (scalar (payload type s))) e .1), ne-eqb type 15 other) (omega arith)
 
-  prefixed-grows : (type : ℕ) (s : List ℕ) (b : Bool) → length (valueBytes used (prefixedMeaning b type s)) ≤ 5 + length s
-  unfolding prefixedMeaning valueBytes scalarBytes
+  prefixed-grows : (type : ℕ) (s : List ℕ) (b : Bool) → length (valueBytes used (prefixedDoc b type s)) ≤ 5 + length s
+  unfolding valueBytes scalarBytes
   prefixed-grows type s true = text-grows s
   prefixed-grows type s false = go (eqb type 15)
     where
@@ -150,8 +151,8 @@ module _ (names used : Dictionary) (few : length used ≤ 65536) (decode : List 
       let long = length-there type is in
       let grown = prefixed-grows used type (drop 5 s) (eqb type 16) in
       let size = length-drop 5 s in
-      rw (← some-injective (prefixedMeaning (eqb type 16) type (drop 5 s)) d e) (omega arith)
-  grows-by (Short size) is e = rw (← some-injective (scalar (text (drop 1 s))) d e) (short-grows size is)
+      rw (prefixed-is (eqb type 16) type (drop 5 s) e) (omega arith)
+  grows-by (Short size) is e = rw (string-is (drop 1 s) e) (short-grows size is)
   grows-by (ObjectHead c i w) is e =
       let lie = then-some (membersOf names c i w s) _ e in
       let inside = then-some (memberDocs decode (areaOf c i w s) (namesAt names (idsOf c i s)) (lie .0)) _ (lie .2) in
@@ -188,7 +189,7 @@ module _ (levels : ℕ) (names : Dictionary) (s : List ℕ) (d : Doc) (is : mean
 
   pub normal-most : (metadata : List ℕ) → dictionaryOf metadata ≡ some names → length metadata ≤ mostMetadata → length s ≤ mostValue
       → length (normalForm d .value) ≤ 2 * mostValue
-  unfolding mostMetadata mostValue offsetSize
+  unfolding offsetSize
   normal-most metadata read fits short =
       let all = read-length metadata names read in
       let one : (length names + 1) * 1 ≤ (length names + 1) * offsetSize (at metadata 0) = mul-le-mul (omega arith) (omega arith) in

@@ -13,8 +13,8 @@ use Rattle.paper.specs.Limits.{mostValue}
 use Rattle.paper.specs.Meaning.{Doc}
 use Rattle.paper.specs.Metadata.{Dictionary}
 use Rattle.paper.specs.Normal.{Document, namesUsed, metadataBytes, normalForm}
-use Rattle.paper.specs.Operations.{written, documentRoom, documentAnswer, metadataWritten, valueWritten}
-use Rattle.paper.specs.Refusals.{Outcome, refused, reached, unless}
+use Rattle.paper.specs.Operations.{written, documentRoom, documentAnswer, metadataWritten, valueWritten, writable}
+use Rattle.paper.specs.Refusals.{Outcome, refused, reached, require}
 use Rattle.paper.specs.declared.DocumentAnswer.the-variants.{Done, Short, Refused}
 use Rattle.paper.specs.declared.DocumentAnswer.{DocumentAnswer}
 use Rattle.paper.specs.declared.Refusal.the-variants.{TooLarge}
@@ -26,7 +26,7 @@ kept l new e = sym (ap (putAt l 0) e ∙ put-none l 0)
 
 module _ (d : Doc) (value : List ℕ) (is : value ≡ normalForm d .value) (first second : List ℕ) where
   large : 16384 < length value → written d ≡ refused TooLarge
-  unfolding written unless mostValue
+  unfolding written writable require
   large h =
       let long : 16384 < length (normalForm d .value) = rw (← is) h in
       rw (lt-leb (length (normalForm d .value)) 16384 long)
@@ -45,7 +45,7 @@ module _ (d : Doc) (value : List ℕ) (is : value ≡ normalForm d .value) (firs
     size-is = told ∙ ap length metadata-is-normal
 
     fitting : written d ≡ reached (normalForm d)
-    unfolding written unless mostValue
+    unfolding written writable require
     fitting =
         let short : length (normalForm d .value) ≤ 16384 = rw (← is) fits in
         rw (le-leb (length (normalForm d .value)) 16384 short)

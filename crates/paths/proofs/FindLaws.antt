@@ -16,7 +16,8 @@ use Rattle.numbers.specs.Little.{numberAt}
 use Rattle.paper.specs.Limits.{mostLevels}
 use Rattle.paper.specs.Metadata.{Dictionary}
 use Rattle.paper.specs.Operations.{foundBy}
-use Rattle.paper.specs.Paths.{Step, stepOf, pathOf, stepInto, findFrom}
+use Rattle.paper.specs.Paths.{stepOf, pathOf, stepInto, findFrom}
+use Rattle.paper.specs.Standing.{Step}
 use Rattle.paper.specs.Refusals.{reached}
 use Rattle.paper.specs.Values.{Child, childBytes, meaningOf}
 use Rattle.paper.specs.Words.{andThen, isThere}

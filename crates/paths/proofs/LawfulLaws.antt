@@ -10,7 +10,8 @@ use Rattle.dictionary.specs.Judging.{Opened}
 use Rattle.dictionary.specs.declared.Names.{Names}
 use Rattle.paper.specs.FirstBytes.{readingOf}
 use Rattle.paper.specs.Metadata.{Dictionary, rising}
-use Rattle.paper.specs.Paths.{Step, byName, byIndex, intoField, intoElement, stepInto}
+use Rattle.paper.specs.Paths.{intoField, intoElement, stepInto}
+use Rattle.paper.specs.Standing.{Step, byName, byIndex}
 use Rattle.paper.specs.Values.{Child, childrenAt, childBytes, areaOf, startsOf, idsOf, namesAt, membersOf, elementsOf, meaningBy, meaningOf, whole}
 use Rattle.paper.specs.Words.{at, andThen, isThere, allBelow}
 use Rattle.paper.specs.declared.Reading.the-variants.{Fixed, Prefixed, Short, ObjectHead, ArrayHead, Nothing}

@@ -11,9 +11,10 @@ use lib.ListN.{length}
 use Rattle.paper.specs.Limits.{mostMetadata, mostValue, mostPath, mostLevels}
 use Rattle.paper.specs.Meaning.{Doc}
 use Rattle.paper.specs.Metadata.{Dictionary, dictionaryOf}
-use Rattle.paper.specs.Operations.{judged, documentFits, findOutcome, foundBy, findAnswer}
-use Rattle.paper.specs.Paths.{Step, pathOf, findFrom}
-use Rattle.paper.specs.Refusals.{reached, unless, orElse}
+use Rattle.paper.specs.Operations.{judged, documentFits, findOutcome, foundBy, findAnswer, valueJudged}
+use Rattle.paper.specs.Paths.{pathOf, findFrom}
+use Rattle.paper.specs.Standing.{Step}
+use Rattle.paper.specs.Refusals.{reached, require, obtain}
 use Rattle.paper.specs.Values.{Child, meaningOf}
 use Rattle.paper.specs.Words.{isThere}
 use Rattle.paper.specs.declared.Refusal.the-variants.{TooLong, BadMetadata, BadValue, BadPath}
@@ -42,13 +43,13 @@ module _ (v : List ℕ) (short : length v ≤ 16384) (names : Dictionary) (meant
       go (some child) e =
           let inside = found-inside names steps 0 v child lawful e in small (child .start) (child .size) (omega arith)
 
-  path-fits : (x : Option (List Step)) → foundFits (foundBy (orElse BadPath x λ steps. reached (findFrom names steps 0 v))) ≡ true
-  unfolding orElse foundFits foundBy
+  path-fits : (x : Option (List Step)) → foundFits (foundBy (obtain x BadPath λ steps. reached (findFrom names steps 0 v))) ≡ true
+  unfolding obtain foundFits foundBy
   path-fits none = refl
   path-fits (some steps) = along steps
 
 pub found-fits : (m v p : List ℕ) → foundFits (findAnswer m v p) ≡ true
-unfolding findAnswer findOutcome judged unless orElse foundBy foundFits documentFits mostValue
+unfolding findAnswer findOutcome judged valueJudged require obtain foundBy foundFits documentFits
 found-fits m v p = go (documentFits m v && leb (length p) mostPath) refl (dictionaryOf m)
   where
     short : documentFits m v && leb (length p) mostPath ≡ true → length v ≤ 16384
@@ -57,12 +58,12 @@ found-fits m v p = go (documentFits m v && leb (length p) mostPath) refl (dictio
         leb-true (length v) 16384 (and-both (leb (length m) mostMetadata) (leb (length v) 16384) (both .0) .1)
 
     inner : length v ≤ 16384 → (names : Dictionary) (x : Option Doc) → meaningOf mostLevels names v ≡ x
-        → foundFits (foundBy (orElse BadValue x λ d. orElse BadPath (pathOf p) λ steps. reached (findFrom names steps 0 v))) ≡ true
+        → foundFits (foundBy (obtain x BadValue λ d. obtain (pathOf p) BadPath λ steps. reached (findFrom names steps 0 v))) ≡ true
     inner h names none e = refl
     inner h names (some d) e = path-fits v h names (some-there (meaningOf mostLevels names v) e) (pathOf p)
 
     go : (b : Bool) → documentFits m v && leb (length p) mostPath ≡ b → (x : Option Dictionary)
-        → foundFits (foundBy (unless TooLong b (orElse BadMetadata x λ names. orElse BadValue (meaningOf mostLevels names v) λ d. orElse BadPath (pathOf p) λ steps. reached (findFrom names steps 0 v)))) ≡ true
+        → foundFits (foundBy (require b TooLong (obtain x BadMetadata λ names. obtain (meaningOf mostLevels names v) BadValue λ d. obtain (pathOf p) BadPath λ steps. reached (findFrom names steps 0 v)))) ≡ true
     go false e x = refl
     go true e none = refl
     go true e (some names) = inner (short e) names (meaningOf mostLevels names v) refl

@@ -61,7 +61,7 @@ module _ (m v : List ℕ) (r : Document) (told : r ≡ documentOf m v) where
 module _ (m v : List ℕ) (bytes : (i : ℕ) → getD m i 0 < 256) where
   -- the normal metadata is no longer than the lent one, and the normal value no longer than a value may be
   reached-fits : (n : normal.Document) → normaliseOutcome m v ≡ reached n → ltb (length (n .metadata)) (2 ^ 24) && ltb (length (n .value)) (2 ^ 24) ≡ true
-  unfolding mostMetadata mostValue normalForm
+  unfolding normalForm
   reached-fits n e =
       let a : Accepted m v n = accepted m v n e in
       let own : length (n .metadata) ≡ length (metadataBytes (namesUsed (a .d))) = ap (λ (k : normal.Document). length (k .metadata)) (sym (a .written-is)) in

@@ -5,7 +5,9 @@ use mathlib.Core.Option.{Option, none, some}
 use mathlib.Core.Path.{_≡_, refl, sym, ap, _∙_}
 use Prim.Native.Nat.{ℕ, zero, suc, _-_, _≤_, _<_}
 use native.Mathlib.Omega.{arith}
+use lib.Dec.{eqb}
 use lib.ListN.{length, drop}
+use Rattle.paper.proofs.MeaningLaws.{string-there, prefixed-there}
 use Rattle.paper.specs.FirstBytes.{readingOf}
 use Rattle.paper.specs.Metadata.{Dictionary, rising}
 use Rattle.paper.specs.Values.{Child, childrenAt, primitiveMeaning, meaningBy, meaningOf, areaOf, startsOf, idsOf, namesAt, whole, extentBy}
@@ -127,12 +129,12 @@ module _ (levels : ℕ) (names : Dictionary) (s : List ℕ) (some-left : levels 
     value-fixed code size e b f = f ∙ sym (by (Fixed code size) e)
 
     pub value-prefixed : (code : ℕ) → r ≡ Prefixed code → true ≡ isThere (meaningOf levels names s)
-    unfolding meaningBy isThere
-    value-prefixed code e = sym (by (Prefixed code) e)
+    unfolding meaningBy
+    value-prefixed code e = sym (by (Prefixed code) e ∙ prefixed-there (eqb code 16) code (drop 5 s))
 
     pub value-short : (size : ℕ) → r ≡ Short size → true ≡ isThere (meaningOf levels names s)
-    unfolding meaningBy isThere
-    value-short size e = sym (by (Short size) e)
+    unfolding meaningBy
+    value-short size e = sym (by (Short size) e ∙ string-there (drop 1 s))
 
     pub value-nothing : r ≡ Nothing → false ≡ isThere (meaningOf levels names s)
     unfolding meaningBy isThere

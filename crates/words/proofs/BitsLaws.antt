@@ -13,7 +13,7 @@ use Rattle.paper.specs.Cells.{cellMeaning, numberCell, handedOut}
 use Rattle.paper.specs.Limits.{mostCell}
 use Rattle.paper.specs.Meaning.{Scalar, boolean, payload, text}
 use Rattle.paper.specs.Operations.{cellOutcome, cellReadBy, cellAnswer}
-use Rattle.paper.specs.Refusals.{reached, unless, orElse}
+use Rattle.paper.specs.Refusals.{reached, require, obtain}
 use Rattle.paper.specs.Schemas.{columnCode}
 use Rattle.paper.specs.declared.Cell.{Cell}
 use Rattle.paper.specs.declared.Refusal.the-variants.{TooLong, BadSchema, BadRow}
@@ -53,11 +53,11 @@ handed-has-bits (payload type s) = either (eqb type 15) _ _ refl λ _. number-ha
 handed-has-bits (text s) = refl
 
 pub answer-has-bits : (code : ℕ) (s : List ℕ) → answerHasBits (cellAnswer code s) ≡ true
-unfolding cellAnswer cellReadBy cellOutcome unless orElse
+unfolding cellAnswer cellReadBy cellOutcome require obtain
 answer-has-bits code s = go (leb (length s) mostCell) (columnCode code) (cellMeaning code s)
   where
     go : (short known : Bool) (meaning : Option Scalar)
-        → answerHasBits (cellReadBy (unless TooLong short (unless BadSchema known (orElse BadRow meaning λ value. reached (handedOut value)))))
+        → answerHasBits (cellReadBy (require short TooLong (require known BadSchema (obtain meaning BadRow λ value. reached (handedOut value)))))
         ≡ true
     go false known meaning = refl
     go true false meaning = refl

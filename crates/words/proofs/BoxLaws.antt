@@ -9,8 +9,8 @@ use Rattle.paper.specs.Boxes.{boxIn, boxOf, side as sideIn, east, north, south,
 use Rattle.paper.specs.Limits.{mostLevels}
 use Rattle.paper.specs.Meaning.{Doc, null, scalar, array, object}
 use Rattle.paper.specs.Metadata.{Dictionary, dictionaryOf}
-use Rattle.paper.specs.Operations.{judged, documentFits, boxOutcome, boxReadBy, boxAnswer}
-use Rattle.paper.specs.Refusals.{reached, unless, orElse}
+use Rattle.paper.specs.Operations.{judged, documentFits, boxOutcome, boxReadBy, boxAnswer, valueJudged}
+use Rattle.paper.specs.Refusals.{reached, require, obtain}
 use Rattle.paper.specs.Values.{meaningOf}
 use Rattle.paper.specs.Words.{given, andThen}
 use Rattle.paper.specs.declared.LotBox.{LotBox}
@@ -68,15 +68,15 @@ module _ (side : Side) where
       on (sideIn east fs) _ λ e. on (sideIn north fs) _ λ n. on (sideIn south fs) _ λ s. on (sideIn west fs) _ λ w. of-four e n s w
 
   pub side-has-bits : (m v : List ℕ) → sideHasBits side (boxAnswer m v) ≡ true
-  unfolding boxAnswer boxOutcome judged unless orElse boxReadBy
+  unfolding boxAnswer boxOutcome judged valueJudged require obtain boxReadBy
   side-has-bits m v = go (documentFits m v) (dictionaryOf m)
     where
-      inner : (x : Option Doc) → sideHasBits side (boxReadBy (orElse BadValue x λ d. reached (boxOf d))) ≡ true
+      inner : (x : Option Doc) → sideHasBits side (boxReadBy (obtain x BadValue λ d. reached (boxOf d))) ≡ true
       inner none = refl
       inner (some d) = of-doc d
 
       go : (b : Bool) (x : Option Dictionary)
-          → sideHasBits side (boxReadBy (unless TooLong b (orElse BadMetadata x λ names. orElse BadValue (meaningOf mostLevels names v) λ d. reached (boxOf d)))) ≡ true
+          → sideHasBits side (boxReadBy (require b TooLong (obtain x BadMetadata λ names. obtain (meaningOf mostLevels names v) BadValue λ d. reached (boxOf d)))) ≡ true
       go false x = refl
       go true none = refl
       go true (some names) = inner (meaningOf mostLevels names v)

@@ -11,13 +11,14 @@ use lib.ListN.{length, getD, drop, length-map, length-drop}
 use Rattle.forms.proofs.LieLaws.{Bytes, bytes-drop, child-bytes, child-length, elements-lie, members-lie}
 use Rattle.marking.specs.Ids.{holds, idsOfAll, idsInside, idsBy, idsIn}
 use Rattle.names.proofs.SameLaws.{or-second}
+use Rattle.paper.proofs.MeaningLaws.{string-is, prefixed-is}
 use Rattle.paper.proofs.WordLaws.{never, given-some, then-some, some-there}
 use Rattle.paper.specs.FirstBytes.{readingOf}
 use Rattle.paper.specs.Meaning.{Doc, scalar, text, array, object, Docs, noDocs, doc, Fields, noFields, field}
 use Rattle.paper.specs.Metadata.{Dictionary}
 use Rattle.paper.specs.Normal.{idOf, fieldNames, valueBytes, elementBytes, memberBytes}
 use Rattle.numbers.specs.Little.{numberAt}
-use Rattle.paper.specs.Values.{headSize, Child, childExtent, childrenAt, childBytes, areaOf, startsOf, idsOf, namesAt, elementsOf, membersOf, elementDocs, memberDocs, prefixedMeaning, meaningBy, meaningOf, whole}
+use Rattle.paper.specs.Values.{headSize, Child, childExtent, childrenAt, childBytes, areaOf, startsOf, idsOf, namesAt, elementsOf, membersOf, elementDocs, memberDocs, meaningBy, meaningOf, whole}
 use Rattle.paper.specs.Words.{at, isThere}
 use Rattle.paper.specs.declared.Reading.the-variants.{Fixed, Prefixed, Short, ObjectHead, ArrayHead, Nothing}
 use Rattle.paper.specs.declared.Reading.{Reading}
@@ -156,9 +157,9 @@ module _ (names normal : Dictionary) (ranks : List ℕ) (decode : List ℕ → O
   unfolding meaningBy idsBy rewrittenBy partsOf valueBytes isThere
   written-by (Fixed type size) is d e right = fixed-stands s fills normal type size d is e
   written-by (Prefixed type) is d e right =
-      prefixed-stands s fills bytes type is normal ∙ ap (valueBytes normal) (some-injective (prefixedMeaning (eqb type 16) type (drop 5 s)) d e)
+      prefixed-stands s fills bytes type is normal ∙ ap (valueBytes normal) (sym (prefixed-is (eqb type 16) type (drop 5 s) e))
   written-by (Short size) is d e right =
-      short-stands s fills normal size bytes is ∙ ap (valueBytes normal) (some-injective (scalar (text (drop 1 s))) d e)
+      short-stands s fills normal size bytes is ∙ ap (valueBytes normal) (sym (string-is (drop 1 s) e))
   written-by (ObjectHead c i w) is d e right =
       let lie = then-some (membersOf names c i w s) _ e in
       let inside = then-some (memberDocs decode (areaOf c i w s) (namesAt names (idsOf c i s)) (lie .0)) _ (lie .2) in
