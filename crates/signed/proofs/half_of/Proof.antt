@@ -8,9 +8,9 @@ use borrow.Author.Needs.{needs}
 use borrow.Author.Tests.{eqb-true, leb-true}
 use lib.Dec.{eqb, leb}
 use lib.ListN.{getD}
 use Rattle.numbers.proofs.Table.{entry, and-left, and-right}
-use Rattle.numbers.proofs.half_of.Statement.{statement}
-use Rattle.numbers.proofs.half_of.Tie as tie
+use Rattle.signed.proofs.half_of.Statement.{statement}
+use Rattle.signed.proofs.half_of.Tie as tie
 
 sub-result : tie.Need-sub-result
 sub-result c = search needs

@@ -3,8 +3,8 @@ use mathlib.Core.Path.{_∙_}
 use borrow.Author.Needs.{needs}
 use mir.Facts.{toZ-ofZ}
 use mir.Syntax.{w64}
-use Rattle.numbers.proofs.read_signed.Statement.{statement}
-use Rattle.numbers.proofs.read_signed.Tie as tie
+use Rattle.signed.proofs.read_signed.Statement.{statement}
+use Rattle.signed.proofs.read_signed.Tie as tie
 
 read8-requires : tie.Need-read8-requires
 read8-requires c κs = search needs

@@ -2,10 +2,10 @@
 use mathlib.Core.Path.{ap, _∙_}
 use native.Mathlib.Omega.{arith}
 use borrow.Author.Needs.{needs}
 use Rattle.numbers.specs.Little.{putAt}
-use Rattle.numbers.proofs.SignedLaws.{bytes-handed}
-use Rattle.numbers.proofs.write_signed.Statement.{statement}
-use Rattle.numbers.proofs.write_signed.Tie as tie
+use Rattle.signed.proofs.SignedLaws.{bytes-handed}
+use Rattle.signed.proofs.write_signed.Statement.{statement}
+use Rattle.signed.proofs.write_signed.Tie as tie
 
 unsigned-requires : tie.Need-unsigned-requires
 unsigned-requires c κs = search needs

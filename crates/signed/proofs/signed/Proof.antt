@@ -5,9 +5,9 @@ use native.Mathlib.Omega.{arith}
 use borrow.Author.Needs.{needs}
 use mir.Facts.{toZ-pos}
 use mir.Syntax.{w64}
-use Rattle.numbers.proofs.SignedLaws.{signed-low, signed-high, minus-fits, minus-is}
-use Rattle.numbers.proofs.signed.Statement.{statement}
-use Rattle.numbers.proofs.signed.Tie as tie
+use Rattle.signed.proofs.SignedLaws.{signed-low, signed-high, minus-fits, minus-is}
+use Rattle.signed.proofs.signed.Statement.{statement}
+use Rattle.signed.proofs.signed.Tie as tie
 
 half-of-requires : tie.Need-half-of-requires
 half-of-requires c κs = search needs

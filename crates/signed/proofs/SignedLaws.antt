@@ -11,9 +11,9 @@ use lib.Signed.{mag, leZ}
 use mir.Facts.{toZ-pos, toZ-ofZ}
 use mir.Syntax.{w64}
 use mir.Val.{SFits, toZ, ofZ}
 use Rattle.numbers.specs.Little.{number, numberBytes}
-use Rattle.numbers.specs.Signed.{signedOf, signedBytes}
+use Rattle.signed.specs.Signed.{signedOf, signedBytes}
 use Rattle.numbers.proofs.NumberLaws.{read-back}
 
 -- ---- the two halves
 

@@ -1,8 +1,8 @@
 -- `unsigned`: by the sign; below zero the complement of what the number lacks of -1.
 use native.Mathlib.Omega.{arith}
-use Rattle.numbers.proofs.SignedLaws.{whole, below}
-use Rattle.numbers.proofs.unsigned.Statement.{statement}
-use Rattle.numbers.proofs.unsigned.Tie as tie
+use Rattle.signed.proofs.SignedLaws.{whole, below}
+use Rattle.signed.proofs.unsigned.Statement.{statement}
+use Rattle.signed.proofs.unsigned.Tie as tie
 
 cast-result : tie.Need-cast-result
 cast-result c =
