@@ -14,7 +14,7 @@ import sys
 
 ROOT = os.path.dirname(os.path.dirname(os.path.abspath(__file__)))
 CRATE = os.path.join(ROOT, "target", "definitions", "running_cases")
-DEPS = ["paper", "numbers", "order"]
+DEPS = ["paper", "numbers", "signed", "order"]
 OPS = ["check", "find", "normalise", "shred", "rebuild", "cell", "box"]
 PER_FILE = 125
 

@@ -15,9 +15,9 @@ use Rattle.paper.specs.Words.{at, andThen, isThere, allBelow, same}
 use Rattle.paper.specs.declared.Reading.the-variants.{ObjectHead}
 use Rattle.boxes.proofs.DoubleLaws.{meant}
 use Rattle.paper.proofs.WordLaws.{never, given-some, then-some, some-there}
-use Rattle.values.proofs.ChildLaws.{SizedIn, children-sized}
-use Rattle.values.proofs.CoverLaws.{AllWithin}
-use Rattle.values.proofs.WalkLaws.{all-within}
+use Rattle.containers.proofs.ChildLaws.{SizedIn, children-sized}
+use Rattle.containers.proofs.CoverLaws.{AllWithin}
+use Rattle.containers.proofs.WalkLaws.{all-within}
 
 -- ---- a name among the names of children
 

@@ -11,7 +11,7 @@ use lib.Ieee.{ofBits, nanBits, binary32, binary64}
 use lib.ListN.{length, getD, take, drop, length-drop}
 use lib.Seq.{take-all}
 use Rattle.numbers.specs.Little.{number, numberAt}
-use Rattle.numbers.specs.Signed.{signedOf}
+use Rattle.signed.specs.Signed.{signedOf}
 use Rattle.paper.specs.Cells.{bodyKind, cellBy, cellMeaning, numberCell, handedOut}
 use Rattle.paper.specs.FirstBytes.{payloadSizes}
 use Rattle.paper.specs.Limits.{mostCell}

@@ -72,7 +72,7 @@ fn number_cell(code: usize, bytes: &[u8]) -> Cell
         let second = numbers::read8(bytes, 8);
         return Cell::Uuid { first, second };
     }
-    Cell::Integer(numbers::read_signed(bytes, 0, bytes.len()))
+    Cell::Integer(signed::read_signed(bytes, 0, bytes.len()))
 }
 
 // A cell of a boolean: `00` false or `01` true.

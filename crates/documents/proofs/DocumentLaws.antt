@@ -29,7 +29,7 @@ use Rattle.paper.specs.Words.{isThere}
 use Rattle.paper.specs.declared.Refusal.the-variants.{TooLong, BadMetadata, BadValue}
 use Rattle.dictionary.proofs.DictionaryLaws.{opened, opened-names, broken}
 use Rattle.paper.proofs.WordLaws.{never, there-some, given-failed, some-there}
-use Rattle.values.proofs.LengthLaws.{unknown-none, size-some}
+use Rattle.containers.proofs.LengthLaws.{unknown-none, size-some}
 
 not-there : {A : Type 0} (x : Option A) → isThere x ≡ false → x ≡ none
 unfolding isThere

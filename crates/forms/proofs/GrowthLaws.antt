@@ -22,7 +22,7 @@ use Rattle.paper.specs.Values.{Child, extentBy, areaOf, idsOf, namesAt, element
 use Rattle.paper.specs.Words.{at, isThere}
 use Rattle.paper.specs.declared.Reading.the-variants.{Fixed, Prefixed, Short, ObjectHead, ArrayHead, Nothing}
 use Rattle.paper.specs.declared.Reading.{Reading}
-use Rattle.values.specs.Children.{sizes}
+use Rattle.containers.specs.Children.{sizes}
 use Rattle.forms.proofs.BackLaws.{ids-length, ids-below}
 use Rattle.forms.proofs.ContainerLaws.{array-length, object-length, largest-below}
 use Rattle.forms.proofs.LieLaws.{Bytes, elements-lie, members-lie, lie-sized}

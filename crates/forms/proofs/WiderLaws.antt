@@ -18,14 +18,14 @@ use Rattle.paper.specs.Metadata.{Dictionary}
 use Rattle.paper.specs.Normal.{largeBit, valueBytes, elementBytes, memberBytes}
 use Rattle.paper.specs.Values.{Child, childExtent, headSize, areaOf, startsOf, childBytes, elementDocs, memberDocs}
 use Rattle.paper.specs.Words.{isThere, among, joined}
-use Rattle.values.specs.Children.{sizes}
+use Rattle.containers.specs.Children.{sizes}
 use Rattle.forms.proofs.ContainerLaws.{countOf, widthOf}
 use Rattle.forms.proofs.LieLaws.{Bytes, bytes-drop, child-length, child-bytes, Lie, lie-count, lie-sizes, numbers-few}
 use Rattle.heads.proofs.HeadLaws.{Spans}
 use Rattle.names.proofs.NeverLongerLaws.{number-at-below}
 use Rattle.numbers.proofs.WidthLaws.{smallest-least}
 use Rattle.paper.proofs.WordLaws.{never, then-some, and-both, some-there}
-use Rattle.values.proofs.ChildLaws.{AllSized, extent-fits}
+use Rattle.containers.proofs.ChildLaws.{AllSized, extent-fits}
 
 -- ---- heads
 

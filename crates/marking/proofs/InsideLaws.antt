@@ -15,15 +15,15 @@ use Rattle.paper.specs.Meaning.{Doc}
 use Rattle.paper.specs.Metadata.{Dictionary}
 use Rattle.paper.specs.Values.{Child, childExtent, childrenAt, childBytes, areaOf, startsOf, meaningOf}
 use Rattle.paper.specs.Words.{numbers, andThen, isThere}
-use Rattle.values.specs.Children.{childGood, allGood, insidesGood}
-use Rattle.values.specs.Layouts.{LaidOut}
-use Rattle.values.specs.declared.shape.Layout.{Layout}
+use Rattle.values.specs.Insides.{childGood, allGood, insidesGood}
+use Rattle.containers.specs.Layouts.{LaidOut}
+use Rattle.containers.specs.declared.shape.Layout.{Layout}
 use Rattle.dictionary.proofs.NumbersRunLaws.{rest}
 use Rattle.marking.proofs.MarkLaws.{marked-length, mark-append}
 use Rattle.paper.proofs.WordLaws.{never, and-both}
-use Rattle.values.proofs.ChildLaws.{withFirst, children-none, children-some}
-use Rattle.values.proofs.LayoutLaws.{area-same, starts-same, area-small, starts-there, starts-few}
-use Rattle.values.proofs.RunLaws.{Standing, standing-start, standing-there, standing-fits, standing-next, run-next, run-ended}
+use Rattle.containers.proofs.ChildLaws.{withFirst, children-none, children-some}
+use Rattle.containers.proofs.LayoutLaws.{area-same, starts-same, area-small, starts-there, starts-few}
+use Rattle.containers.proofs.RunLaws.{Standing, standing-start, standing-there, standing-fits, standing-next, run-next, run-ended}
 
 -- ---- one child more
 

@@ -8,8 +8,8 @@ use lib.ListN.{length}
 use Rattle.paper.specs.Metadata.{Dictionary}
 use Rattle.paper.specs.Values.{childExtent, childrenAt, childBytes, areaOf, startsOf, meaningOf}
 use Rattle.paper.specs.Words.{isThere}
-use Rattle.values.specs.Children.{childGood, insidesGood}
-use Rattle.values.specs.Layouts.{Container}
+use Rattle.values.specs.Insides.{childGood, insidesGood}
+use Rattle.containers.specs.Layouts.{Container}
 
 -- Of a value, within so many levels, and a table of a size.
 pub record Markable (levels : ℕ) (s : List ℕ) (size : ℕ) : Type 0 where

@@ -35,7 +35,7 @@ use Rattle.names.proofs.SameLaws.{among-at}
 use Rattle.normalise.proofs.ChosenLaws.{chosen-used, ranks-right}
 use Rattle.paper.proofs.WordLaws.{there-some}
 use Rattle.ranking.proofs.HeldLaws.{named, below-held}
-use Rattle.values.proofs.WalkLaws.{below-more}
+use Rattle.containers.proofs.WalkLaws.{below-more}
 
 -- ---- a numbered document is ready to be written
 

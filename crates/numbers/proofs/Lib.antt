@@ -4,4 +4,3 @@ pub mod Table
 pub mod NumberLaws
 pub mod PutLaws
 pub mod WidthLaws
-pub mod SignedLaws

@@ -7,7 +7,7 @@ use lib.Dec.{leb, eqb}
 use lib.Ieee.{ofBits, nanBits, binary32, binary64}
 use lib.ListN.{length, take, drop, getD}
 use Rattle.numbers.specs.Little.{number}
-use Rattle.numbers.specs.Signed.{signedOf}
+use Rattle.signed.specs.Signed.{signedOf}
 use Rattle.paper.specs.Words.{at, given}
 use Rattle.paper.specs.FirstBytes.{payloadSizes}
 use Rattle.paper.specs.Meaning.{Scalar, boolean, payload, text, textMeaning}

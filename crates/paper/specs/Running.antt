@@ -3,7 +3,7 @@
 use lib.Ieee.{ofBits, nanBits, le}
 use Prim.Native.Nat.{ℕ}
 use Rattle.numbers.specs.Little.{number, numberBytes, numberAt, putAt, widthWithin, smallestWidth}
-use Rattle.numbers.specs.Signed.{signedOf, signedBytes}
+use Rattle.signed.specs.Signed.{signedOf, signedBytes}
 use Rattle.order.specs.Before.{before, orderOf}
 use Rattle.paper.specs.Words.{given, oneIf, isThere, andThen, numbers, lastOf, allBelow, same, among, joined}
 use Rattle.paper.specs.Refusals.{require, obtain}

@@ -29,7 +29,7 @@ use Rattle.paper.proofs.WordLaws.{never, then-some}
 use Rattle.paths.proofs.LawfulLaws.{step-held}
 use Rattle.paths.proofs.PartLaws.{place-nowhere, place-at}
 use Rattle.paths.proofs.PathLaws.{stepThen, pieceAt, path-short, path-cut, path-more, path-ended}
-use Rattle.values.proofs.CoverLaws.{Test, passed, failed, less}
+use Rattle.containers.proofs.CoverLaws.{Test, passed, failed, less}
 
 -- ---- a part of a part
 

@@ -16,15 +16,15 @@ ghost use Rattle.paper.specs.Paths.{stepOf, pathOf, intoField, intoElement, ste
 ghost use Rattle.paper.specs.Standing.{Step};
 ghost use Rattle.paper.specs.Operations.{foundBy};
 ghost use Rattle.dictionary.specs.Judging.{Opened};
-ghost use Rattle.values.specs.Layouts.{Container};
+ghost use Rattle.containers.specs.Layouts.{Container};
 ghost use Rattle.paths.specs.Places.{placeOf, LawfulIn};
 use crate::places::Place;
 use crate::places::element_at;
 use crate::places::field_at;
+use containers::layout_of;
 use dictionary::Names;
 use paper::Found;
 use paper::Reading;
-use values::layout_of;
 
 // The field of a name, as a part of its object.
 fn in_object(

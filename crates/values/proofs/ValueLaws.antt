@@ -14,12 +14,13 @@ use Rattle.paper.specs.Values.{Child, childrenAt, primitiveMeaning, meaningBy, 
 use Rattle.paper.specs.Words.{at, isThere, allBelow}
 use Rattle.paper.specs.declared.Reading.the-variants.{Fixed, Prefixed, Short, ObjectHead, ArrayHead, Nothing}
 use Rattle.paper.specs.declared.Reading.{Reading}
-use Rattle.values.specs.Children.{onceIn, tiledIn, insidesGood}
-use Rattle.values.specs.Layouts.{Container}
+use Rattle.containers.specs.Children.{onceIn, tiledIn}
+use Rattle.containers.specs.Layouts.{Container}
+use Rattle.values.specs.Insides.{insidesGood}
 use Rattle.heads.proofs.HeadLaws.{extent-some}
 use Rattle.heads.proofs.ReadingLaws.{object-sizes, array-sizes}
 use Rattle.paper.proofs.WordLaws.{never, given-passed, and-both}
-use Rattle.values.proofs.LayoutLaws.{ids-starts-length}
+use Rattle.containers.proofs.LayoutLaws.{ids-starts-length}
 use Rattle.values.proofs.PrimitiveLaws.{whole-extent}
 use Rattle.values.proofs.VerdictLaws.{array-verdict, object-verdict}
 

@@ -10,12 +10,12 @@ ghost use Rattle.paper.specs.Values.{areaOf, startsOf, childExtent, childrenAt,
 ghost use Rattle.paper.specs.declared.Reading.the-variants.{Fixed};
 ghost use Rattle.dictionary.specs.Judging.{Opened};
 ghost use Rattle.heads.specs.Packing.{Readings};
-ghost use Rattle.values.specs.Children.{plainBy, childGood, insidesGood};
-ghost use Rattle.values.specs.Layouts.{Container};
-use crate::children::child_extent;
-use crate::shape::array_lies;
-use crate::shape::layout_of;
-use crate::shape::object_lies;
+ghost use Rattle.values.specs.Insides.{plainBy, childGood, insidesGood};
+ghost use Rattle.containers.specs.Layouts.{Container};
+use containers::array_lies;
+use containers::child_extent;
+use containers::layout_of;
+use containers::object_lies;
 use dictionary::Names;
 use heads::Extent;
 use paper::Reading;

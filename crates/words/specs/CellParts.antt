@@ -3,7 +3,7 @@ use mathlib.Core.Bool.{Bool, true, not}
 use Prim.Native.Nat.{ℕ}
 use lib.Ieee.{toBits, isNan, binary32, binary64}
 use Rattle.numbers.specs.Little.{number}
-use Rattle.numbers.specs.Signed.{signedBytes}
+use Rattle.signed.specs.Signed.{signedBytes}
 use Rattle.paper.specs.Words.{oneIf}
 use Rattle.paper.specs.declared.Cell.{Cell}
 use Rattle.paper.specs.declared.Cell.the-variants.{Boolean, Integer, Float, Double, FloatNan, DoubleNan, Length, Uuid}

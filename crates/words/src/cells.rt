@@ -53,7 +53,7 @@ fn first_of(cell: Cell) -> u64
 {
     match cell {
         Cell::Boolean(yes) => yes as u64,
-        Cell::Integer(z) => numbers::unsigned(z),
+        Cell::Integer(z) => signed::unsigned(z),
         Cell::Float(x) => float_bits(x) as u64,
         Cell::FloatNan(bits) => bits as u64,
         Cell::Double(x) => double_bits(x),

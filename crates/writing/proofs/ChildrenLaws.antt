@@ -15,11 +15,11 @@ use Rattle.heads.specs.declared.Extent.the-variants.{Size, Unknown}
 use Rattle.numbers.specs.Little.{numberAt}
 use Rattle.paper.specs.Values.{childExtent, childBytes, areaOf, startsOf}
 use Rattle.paper.specs.Words.{numbers, joined}
-use Rattle.values.proofs.InsideLaws.{own-is, known}
-use Rattle.values.proofs.LayoutLaws.{area-same, starts-same, area-small, starts-there, starts-few}
-use Rattle.values.proofs.RunLaws.{Standing, standing-there, run-here}
-use Rattle.values.specs.Layouts.{Container, LaidOut}
-use Rattle.values.specs.declared.shape.Layout.{Layout}
+use Rattle.containers.proofs.OwnLaws.{own-is, known}
+use Rattle.containers.proofs.LayoutLaws.{area-same, starts-same, area-small, starts-there, starts-few}
+use Rattle.containers.proofs.RunLaws.{Standing, standing-there, run-here}
+use Rattle.containers.specs.Layouts.{Container, LaidOut}
+use Rattle.containers.specs.declared.shape.Layout.{Layout}
 use Rattle.writing.specs.Ends.{EndsAt}
 use Rattle.writing.specs.Rewritten.{partAt, partsOf, rewritten}
 use Rattle.writing.specs.Written.{Writable, WritableChild, Holding}

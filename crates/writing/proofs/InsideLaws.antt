@@ -16,8 +16,8 @@ use Rattle.paper.proofs.WordLaws.{never, then-some, and-both}
 use Rattle.paper.specs.Metadata.{Dictionary}
 use Rattle.paper.specs.Values.{Child, childExtent, childrenAt, childBytes, meaningOf}
 use Rattle.paper.specs.Words.{isThere, allBelow, joined}
-use Rattle.values.proofs.ChildLaws.{extent-fits}
-use Rattle.values.specs.Children.{allGood, insidesGood}
+use Rattle.containers.proofs.ChildLaws.{extent-fits}
+use Rattle.values.specs.Insides.{allGood, insidesGood}
 use Rattle.writing.specs.Rewritten.{sizedPart, partAt, rewritten}
 use Rattle.writing.specs.Written.{WritableChild}
 use Rattle.writing.proofs.RewrittenLaws.{rewritten-filled}

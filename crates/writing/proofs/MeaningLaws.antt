@@ -22,8 +22,8 @@ use Rattle.paper.specs.Values.{headSize, Child, childExtent, childrenAt, childB
 use Rattle.paper.specs.Words.{at, isThere}
 use Rattle.paper.specs.declared.Reading.the-variants.{Fixed, Prefixed, Short, ObjectHead, ArrayHead, Nothing}
 use Rattle.paper.specs.declared.Reading.{Reading}
-use Rattle.values.proofs.ChildLaws.{extent-fits}
-use Rattle.values.proofs.LayoutLaws.{ids-starts-length}
+use Rattle.containers.proofs.ChildLaws.{extent-fits}
+use Rattle.containers.proofs.LayoutLaws.{ids-starts-length}
 use Rattle.values.proofs.ValueLaws.{object-container, object-id}
 use Rattle.writing.specs.Rewritten.{ranksAt, sizedPart, partAt, partsOf, rewrittenBy, rewritten}
 use Rattle.writing.specs.Ends.{EndsAt}

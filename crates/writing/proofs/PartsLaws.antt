@@ -8,9 +8,9 @@ use lib.Seq.{drop-at, drop-drop}
 use Rattle.forms.proofs.PartLaws.{AllFilled}
 use Rattle.paper.specs.Values.{areaOf, startsOf}
 use Rattle.paper.specs.Words.{at, joined}
-use Rattle.values.proofs.LayoutLaws.{area-same, area-small}
-use Rattle.values.specs.Layouts.{Container, LaidOut}
-use Rattle.values.specs.declared.shape.Layout.{Layout}
+use Rattle.containers.proofs.LayoutLaws.{area-same, area-small}
+use Rattle.containers.specs.Layouts.{Container, LaidOut}
+use Rattle.containers.specs.declared.shape.Layout.{Layout}
 use Rattle.writing.specs.Ends.{EndsAt, Lies, Lying}
 use Rattle.writing.specs.Rewritten.{partsOf, rewritten}
 use Rattle.writing.specs.Written.{Holding}

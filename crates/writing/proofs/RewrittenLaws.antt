@@ -22,9 +22,9 @@ use Rattle.paper.specs.Values.{extentBy, areaOf, startsOf, idsOf, meaningBy, me
 use Rattle.paper.specs.Words.{at, isThere, numbers}
 use Rattle.paper.specs.declared.Reading.the-variants.{Fixed, Prefixed, Short, ObjectHead, ArrayHead, Nothing}
 use Rattle.paper.specs.declared.Reading.{Reading}
-use Rattle.values.proofs.LayoutLaws.{starts-there, starts-same, ids-starts-length}
-use Rattle.values.specs.Layouts.{Container, LaidOut}
-use Rattle.values.specs.declared.shape.Layout.{Layout}
+use Rattle.containers.proofs.LayoutLaws.{starts-there, starts-same, ids-starts-length}
+use Rattle.containers.specs.Layouts.{Container, LaidOut}
+use Rattle.containers.specs.declared.shape.Layout.{Layout}
 use Rattle.dictionary.proofs.NumbersRunLaws.{rest, run-length}
 use Rattle.values.proofs.PrimitiveLaws.{whole-extent}
 use Rattle.values.proofs.ValueLaws.{object-container, object-id}

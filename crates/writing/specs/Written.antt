@@ -11,7 +11,7 @@ use Rattle.paper.specs.Metadata.{Dictionary}
 use Rattle.paper.specs.Normal.{idOf, valueBytes}
 use Rattle.paper.specs.Values.{childExtent, childBytes, areaOf, startsOf, meaningOf}
 use Rattle.paper.specs.Words.{isThere, allBelow, joined}
-use Rattle.values.specs.Layouts.{Container}
+use Rattle.containers.specs.Layouts.{Container}
 use Rattle.writing.specs.Ends.{EndsAt}
 use Rattle.writing.specs.Rewritten.{partsOf, rewritten}
 

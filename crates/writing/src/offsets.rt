@@ -27,7 +27,7 @@ pub fn write_offsets(
     let mut i = 0;
     while i < count {
         numbers::write(out, place, width, child - start);
-        let Extent::Size(size) = values::child_extent(readings, out, child) else {
+        let Extent::Size(size) = containers::child_extent(readings, out, child) else {
             return from;
         };
         child += size;

@@ -9,8 +9,8 @@ use borrow.Fn.PlainCycle.{Measures, is, falls, and}
 use Rattle.marking.proofs.ChildLaws.{child-begins, child-plain, child-lost, child-asks, child-marked}
 use Rattle.marking.proofs.InsideLaws.{InsideSeen, inside-start, next-there, next-fits, next-asks, inside-next, inside-done}
 use Rattle.marking.proofs.ValueLaws.{some-level, value-begins, fixed-marked, prefixed-marked, short-marked, nothing-marked, array-asks, array-marked, object-holds, ids-begin, run-asks, object-asks, object-marked}
-use Rattle.values.proofs.InsideLaws.{child-end, child-in}
-use Rattle.values.proofs.LayoutLaws.{starts-in}
+use Rattle.containers.proofs.OwnLaws.{child-end, child-in}
+use Rattle.containers.proofs.LayoutLaws.{starts-in}
 use Rattle.marking.proofs.child.Reads as child
 use Rattle.marking.proofs.child.Kinds as child-kinds
 use Rattle.marking.proofs.+child+children+mark.Lts-child as child-lts
@@ -23,8 +23,8 @@ use Rattle.marking.proofs.+child+children+mark.Lts-mark as mark-lts
 use Rattle.heads.proofs.reading_by.Reads as reading-by-reads
 use Rattle.marking.proofs.mark_run.Reads as mark-run-reads
 use Rattle.numbers.proofs.read.Reads as read-reads
-use Rattle.values.proofs.child_extent.Reads as child-extent-reads
-use Rattle.values.proofs.layout_of.Reads as layout-of-reads
+use Rattle.containers.proofs.child_extent.Reads as child-extent-reads
+use Rattle.containers.proofs.layout_of.Reads as layout-of-reads
 use Rattle.marking.proofs.+child+children+mark.{statement}
 use Rattle.marking.proofs.+child+children+mark.Tie.{close}
 

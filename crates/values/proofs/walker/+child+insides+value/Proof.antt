@@ -7,8 +7,9 @@ use borrow.Fn.Kinds.{In}
 use borrow.Fn.PlainCycle.{Measures, is, falls, and}
 use Rattle.paper.specs.Metadata.{namesIn}
 use Rattle.paper.specs.Values.{meaningOf}
-use Rattle.values.proofs.InsideLaws.{child-starts, child-plain, child-lost, child-end, child-in, child-asks, child-judged, InsidesSeen, insides-start, next-there, next-fits, next-asks, insides-bad, insides-next, insides-done}
-use Rattle.values.proofs.LayoutLaws.{starts-in}
+use Rattle.values.proofs.InsideLaws.{child-plain, child-lost, child-judged, InsidesSeen, insides-start, next-there, next-fits, next-asks, insides-bad, insides-next, insides-done}
+use Rattle.containers.proofs.OwnLaws.{child-starts, child-end, child-in, child-asks}
+use Rattle.containers.proofs.LayoutLaws.{starts-in}
 use Rattle.values.proofs.ValueLaws.{value-none, whole-some, fixed-asks, value-fixed, value-prefixed, value-short, value-nothing, array-container, array-there, value-array-not, value-array, object-container, object-id, object-there, value-object-not, value-object}
 use Rattle.values.proofs.walker.child.Reads as child
 use Rattle.values.proofs.walker.child.Kinds as child-kinds
@@ -21,10 +22,10 @@ use Rattle.values.proofs.walker.value.Kinds as value-kinds
 use Rattle.values.proofs.walker.+child+insides+value.Lts-value as value-lts
 use Rattle.heads.proofs.reading_by.Reads as reading-by-reads
 use Rattle.numbers.proofs.read.Reads as read-reads
-use Rattle.values.proofs.children.child_extent.Reads as child-extent-reads
-use Rattle.values.proofs.shape.array_lies.Reads as array-lies-reads
-use Rattle.values.proofs.shape.layout_of.Reads as layout-of-reads
-use Rattle.values.proofs.shape.object_lies.Reads as object-lies-reads
+use Rattle.containers.proofs.child_extent.Reads as child-extent-reads
+use Rattle.containers.proofs.array_lies.Reads as array-lies-reads
+use Rattle.containers.proofs.layout_of.Reads as layout-of-reads
+use Rattle.containers.proofs.object_lies.Reads as object-lies-reads
 use Rattle.values.proofs.walker.plain.Reads as plain-reads
 use Rattle.values.proofs.walker.primitive.Reads as primitive-reads
 use Rattle.values.proofs.walker.+child+insides+value.{statement}

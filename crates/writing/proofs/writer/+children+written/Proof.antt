@@ -6,8 +6,8 @@ use native.Mathlib.Omega.{arith}
 use borrow.Author.Needs.{needs}
 use borrow.Fn.Kinds.{In}
 use borrow.Fn.PlainCycle.{Measures, is, falls, and}
-use Rattle.values.proofs.InsideLaws.{child-end, child-in}
-use Rattle.values.proofs.LayoutLaws.{starts-in, layout-few}
+use Rattle.containers.proofs.OwnLaws.{child-end, child-in}
+use Rattle.containers.proofs.LayoutLaws.{starts-in, layout-few}
 use Rattle.writing.proofs.ChildrenLaws.{ChildrenSeen, children-start, start-there, start-fits, child-lost, child-ready, children-next, children-done}
 use Rattle.writing.proofs.WriterLaws.{level-some, first-there, fixed-fits, short-fits, prefixed-there, prefixed-fits, fixed-ends, short-ends, prefixed-ends, nothing-ends, array-laid, array-holding, array-lying, array-within, array-room, array-ends, object-laid, object-start, object-least, object-most, object-holding, object-ids, object-ranked, object-lying, object-within, object-room, object-ends}
 use Rattle.writing.proofs.writer.children.Reads as children
@@ -18,8 +18,8 @@ use Rattle.writing.proofs.writer.written.Kinds as written-kinds
 use Rattle.writing.proofs.writer.+children+written.Lts-written as written-lts
 use Rattle.heads.proofs.reading_by.Reads as reading-by-reads
 use Rattle.numbers.proofs.read.Reads as read-reads
-use Rattle.values.proofs.child_extent.Reads as child-extent-reads
-use Rattle.values.proofs.layout_of.Reads as layout-of-reads
+use Rattle.containers.proofs.child_extent.Reads as child-extent-reads
+use Rattle.containers.proofs.layout_of.Reads as layout-of-reads
 use Rattle.writing.proofs.container.array_head.Reads as array-head-reads
 use Rattle.writing.proofs.container.object_head.Reads as object-head-reads
 use Rattle.writing.proofs.scalars.copied.Reads as copied-reads

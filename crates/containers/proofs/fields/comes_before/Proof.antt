@@ -1,0 +1,50 @@
+-- `comes_before`: by the ids where the dictionary is sorted, else by the bytes of the names.
+use borrow.Author.Needs.{needs}
+use Rattle.containers.proofs.FieldLaws.{sorted-before, less-before, equal-before, greater-before}
+use Rattle.containers.proofs.fields.comes_before.Statement.{statement}
+use Rattle.containers.proofs.fields.comes_before.Tie as tie
+
+returns : tie.Need-returns
+returns c = search (needs, sorted-before)
+
+name-requires : tie.Need-name-requires
+name-requires c κs = search needs
+
+name-requires-2 : tie.Need-name-requires-2
+name-requires-2 c κs = search needs
+
+compare-requires : tie.Need-compare-requires
+compare-requires c κs = search needs
+
+enum-told : tie.Need-enum-told
+enum-told c = search needs
+
+enum-told-2 : tie.Need-enum-told-2
+enum-told-2 c = search needs
+
+enum-told-3 : tie.Need-enum-told-3
+enum-told-3 c = search needs
+
+returns-2 : tie.Need-returns-2
+returns-2 c = search (needs, less-before)
+
+returns-3 : tie.Need-returns-3
+returns-3 c = search (needs, equal-before)
+
+returns-4 : tie.Need-returns-4
+returns-4 c = search (needs, greater-before)
+
+pub comes-before-spec : {M : Type 1} → statement M
+comes-before-spec =
+    tie.close
+    (tie.spec
+    returns
+    name-requires
+    name-requires-2
+    compare-requires
+    enum-told
+    enum-told-2
+    enum-told-3
+    returns-2
+    returns-3
+    returns-4)
