@@ -9,15 +9,17 @@ use lib.Dec.{eqb, leb}
 use lib.Ieee.Bits.{nanBits-is, toBits-ofBits}
 use lib.Ieee.{Float, Format, top, ofBits, toBits, nanBits, isNan, binary32, binary64}
 use lib.ListN.{length}
+use Rattle.paper.specs.Answers.{cellValues}
 use Rattle.paper.specs.Cells.{cellMeaning, numberCell, handedOut}
 use Rattle.paper.specs.Limits.{mostCell}
 use Rattle.paper.specs.Meaning.{Scalar, boolean, payload, text}
 use Rattle.paper.specs.Operations.{cellOutcome, cellReadBy, cellAnswer}
 use Rattle.paper.specs.Refusals.{reached, require, obtain}
 use Rattle.paper.specs.Schemas.{columnCode}
+use Rattle.paper.specs.Words.{at}
 use Rattle.paper.specs.declared.Cell.{Cell}
 use Rattle.paper.specs.declared.Refusal.the-variants.{TooLong, BadSchema, BadRow}
-use Rattle.words.specs.CellParts.{firstOf, hasBits, answerHasBits}
+use Rattle.words.specs.CellParts.{hasBits, answerHasBits}
 use denote.Floats.{passes}
 
 -- Off a NaN's pattern, the number of the bits is no NaN.
@@ -25,11 +27,11 @@ no-nan : (f : Format) (n : ℕ) → nanBits f n ≡ false → not (isNan (ofBits
 no-nan f n e = ap not (sym (nanBits-is f n) ∙ e)
 
 -- Over the format, the cell of a number and that of a NaN: whatever the pattern, the first word is the pattern.
-pub bits-kept : (f : Format) (held : Float → Cell) (nan : ℕ → Cell) → ((x : Float) → firstOf (held x) ≡ toBits f x) → ((n : ℕ) → firstOf (nan n) ≡ n)
-    → (n : ℕ) → n < 2 * top f → firstOf (cond (nanBits f n) (nan n) (held (ofBits f n))) ≡ n
+pub bits-kept : (f : Format) (held : Float → Cell) (nan : ℕ → Cell) → ((x : Float) → at (cellValues (held x)) 1 ≡ toBits f x) → ((n : ℕ) → at (cellValues (nan n)) 1 ≡ n)
+    → (n : ℕ) → n < 2 * top f → at (cellValues (cond (nanBits f n) (nan n) (held (ofBits f n)))) 1 ≡ n
 bits-kept f held nan of-number of-nan n small = go (nanBits f n) refl
   where
-    go : (is : Bool) → nanBits f n ≡ is → firstOf (cond is (nan n) (held (ofBits f n))) ≡ n
+    go : (is : Bool) → nanBits f n ≡ is → at (cellValues (cond is (nan n) (held (ofBits f n)))) 1 ≡ n
     go true e = of-nan n
     go false e = of-number (ofBits f n) ∙ toBits-ofBits f n small (passes _ (no-nan f n e))
 

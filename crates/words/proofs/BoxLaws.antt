@@ -2,9 +2,10 @@
 use mathlib.Core.Bool.{Bool, true, false, not, _&&_}
 use mathlib.Core.List.{List}
 use mathlib.Core.Option.{Option, none, some}
-use mathlib.Core.Path.{_≡_, refl, sym}
+use mathlib.Core.Path.{_≡_, refl, sym, ap, _∙_}
 use Prim.Native.Nat.{ℕ}
-use lib.Ieee.{Float, nan, inf, fin, le, lt, eq, isNan}
+use lib.Dec.{T}
+use lib.Ieee.{Float, nan, inf, fin, le, lt, eq, isNan, toBits, binary64}
 use Rattle.paper.specs.Boxes.{boxIn, boxOf, side as sideIn, east, north, south, west}
 use Rattle.paper.specs.Limits.{mostLevels}
 use Rattle.paper.specs.Meaning.{Doc, null, scalar, array, object}
@@ -13,12 +14,30 @@ use Rattle.paper.specs.Operations.{judged, documentFits, boxOutcome, boxReadBy,
 use Rattle.paper.specs.Refusals.{reached, require, obtain}
 use Rattle.paper.specs.Values.{meaningOf}
 use Rattle.paper.specs.Words.{given, andThen}
+use Rattle.paper.specs.declared.BoxAnswer.the-variants.{Read}
+use Rattle.paper.specs.declared.BoxAnswer.{BoxAnswer}
 use Rattle.paper.specs.declared.LotBox.{LotBox}
 use Rattle.paper.specs.declared.Refusal.the-variants.{TooLong, BadMetadata, BadValue}
-use Rattle.words.specs.BoxParts.{sideOf, sideHasBits}
+use Rattle.words.specs.BoxParts.{sideOf, sideWord, sideHasBits}
 use Rattle.words.specs.declared.boxes.Side.the-variants.{East, North, South, West}
 use Rattle.words.specs.declared.boxes.Side.{Side}
 use Rattle.paper.proofs.WordLaws.{never, and-both}
+use denote.Floats.{passes}
+
+-- x is the side that was read: it is no NaN where its bits can be had, and r is its bits.
+pub side-number : (side : Side) (answer : BoxAnswer) (b : LotBox) → answer ≡ Read b → sideHasBits side answer ≡ true → (x : Float) → x ≡ sideOf side b
+    → T (not (isNan x))
+side-number side answer b read has x is = passes (not (isNan x)) (ap (λ (y : Float). not (isNan y)) is ∙ (rw read at has))
+
+pub side-bits : (side : Side) (answer : BoxAnswer) (b : LotBox) → answer ≡ Read b → (x : Float) → x ≡ sideOf side b → (r : ℕ) → r ≡ toBits binary64 x
+    → r ≡ sideWord side answer
+side-bits side answer b read x is r bits = bits ∙ ap (toBits binary64) is ∙ rw read (value side)
+  where
+    value : (side : Side) → toBits binary64 (sideOf side b) ≡ sideWord side (Read b)
+    value East = refl
+    value North = refl
+    value South = refl
+    value West = refl
 
 -- What is in order is no NaN.
 in-order : (x y : Float) → le x y ≡ true → (not (isNan x) ≡ true) × (not (isNan y) ≡ true)
