@@ -1,15 +1,36 @@
 // Which names of a dictionary a value uses: the ids inside a lawful value, marked in a table in one walk.
 ghost use mathlib.Core.Path.{_≡_};
 ghost use mathlib.Core.Bool.{true};
-ghost use Prim.Native.Nat.{_*_, _≤_};
-ghost use lib.ListN.{length};
+ghost use Prim.Native.Nat.{_*_, _≤_, _<_};
+ghost use lib.Dec.{eqb};
+ghost use lib.ListN.{length, getD, set};
 ghost use Rattle.paper.specs.Words.{numbers, allBelow};
 ghost use Rattle.paper.specs.Values.{areaOf, startsOf, childrenAt};
 ghost use Rattle.heads.specs.Packing.{Readings};
 ghost use Rattle.marking.specs.Ids.{idsInside, idsIn, markIds};
 ghost use Rattle.marking.specs.Marking.{Markable, MarkableChild, MarkableInside, idsAt};
+use dictionary::InputId;
+use dictionary::input_id_at;
 use heads::Extent;
 use paper::Reading;
+
+// An id is marked.
+pub fn is_used(used: &[u8], id: InputId) -> bool
+    requires { ⌜ id .0 < length (now used) ⌝ }
+    ensures { λ r. ⌜ r ≡ eqb (getD (now (used .entry)) (id .0) 0) 1 ⌝ }
+{
+    let place = id.0;
+    used[place] == 1
+}
+
+// Marks an id.
+fn mark_id(used: &mut [u8], id: InputId)
+    requires { ⌜ id .0 < length (now used) ⌝ }
+    ensures { λ _. ⌜ now (used .exit) ≡ set (now (used .entry)) (id .0) 1 ⌝ }
+{
+    let place = id.0;
+    used[place] = 1;
+}
 
 // Marks the ids that stand one after another, so many.
 fn mark_run(ids: &[u8], width: usize, count: usize, used: &mut [u8])
@@ -19,8 +40,7 @@ fn mark_run(ids: &[u8], width: usize, count: usize, used: &mut [u8])
     let mut place = 0;
     let mut i = 0;
     while i < count {
-        let id = numbers::read(ids, place, width);
-        used[id] = 1;
+        mark_id(used, input_id_at(ids, place, width));
         place += width;
         i += 1;
     }

@@ -1,8 +1,8 @@
 -- `comes_before`: by the ids where the dictionary is sorted, else by the bytes of the names.
 use borrow.Author.Needs.{needs}
-use Rattle.containers.proofs.FieldLaws.{sorted-before, less-before, equal-before, greater-before}
-use Rattle.containers.proofs.fields.comes_before.Statement.{statement}
-use Rattle.containers.proofs.fields.comes_before.Tie as tie
+use Rattle.dictionary.proofs.CompareLaws.{isLess, compared, sorted-before}
+use Rattle.dictionary.proofs.ids.comes_before.Statement.{statement}
+use Rattle.dictionary.proofs.ids.comes_before.Tie as tie
 
 returns : tie.Need-returns
 returns c = search (needs, sorted-before)
@@ -26,13 +26,22 @@ enum-told-3 : tie.Need-enum-told-3
 enum-told-3 c = search needs
 
 returns-2 : tie.Need-returns-2
-returns-2 c = search (needs, less-before)
+unfolding isLess
+returns-2 c =
+    let asked = c .before .before in
+    compared _ _ _ _ (asked .before .before .name .ensures) (asked .before .name2 .ensures) _ _ (asked .compare .ensures) (c .enum-told .given .1)
 
 returns-3 : tie.Need-returns-3
-returns-3 c = search (needs, equal-before)
+unfolding isLess
+returns-3 c =
+    let asked = c .before .before in
+    compared _ _ _ _ (asked .before .before .name .ensures) (asked .before .name2 .ensures) _ _ (asked .compare .ensures) (c .enum-told2 .given .1)
 
 returns-4 : tie.Need-returns-4
-returns-4 c = search (needs, greater-before)
+unfolding isLess
+returns-4 c =
+    let asked = c .before .before in
+    compared _ _ _ _ (asked .before .before .name .ensures) (asked .before .name2 .ensures) _ _ (asked .compare .ensures) (c .enum-told3 .given .1)
 
 pub comes-before-spec : {M : Type 1} → statement M
 comes-before-spec =
