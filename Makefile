@@ -24,12 +24,17 @@ told = mkdir -p target; $(1) 2>&1 | tee $(SAID) \
 tested = cd $(1); mkdir -p target; $(CARGO) test > target/tests.log 2>&1 || { cat target/tests.log; exit 1; }; \
   grep -E '^(test result|warning)' target/tests.log
 
-demo: NEEDED := rt
+# What each command needs.
+demo toolchain layout prove: NEEDED := rt
+definitions: NEEDED := rt python3
+second: NEEDED := cargo rustc cc
+library compared compare bench: NEEDED := rt cargo rustc cc
+test: NEEDED := rt cargo rustc cc python3
+
 demo: tools toolchain
 	@$(call told,rt check demo)
 	@target/bin/demo < crates/demo/stdin
 
-test: NEEDED := rt cargo rustc cc python3
 test: tools toolchain layout second prove definitions compared
 	@tail -n 1 $(GATE)
 
@@ -40,15 +45,14 @@ tools:
 	  *) echo "missing: $$tool" ;; esac; fi; done; exit $$missing
 
 # The toolchain that the proofs were made with is named in TOOLCHAIN; another one is said, and tried.
-toolchain:
+toolchain: tools
 	@if [ "$$(rt version)" != "$$(cat TOOLCHAIN)" ]; then \
 	  echo "toolchain: '$$(rt version)' is at hand, TOOLCHAIN names '$$(cat TOOLCHAIN)'"; fi
 
-layout:
+layout: tools
 	@rt fmt --check
 
 # The second program: its own tests, every shared case, and the documents in the published layout.
-second: NEEDED := cargo rustc cc
 second: tools
 	@$(call tested,second)
 	@cd second && $(CARGO) build --release
@@ -56,33 +60,29 @@ second: tools
 	@second/target/release/second published published
 
 # Every crate proved from nothing, every must-fail edit refused, every program run.
-prove:
+prove: tools
 	@rt ci 2>&1 | tee $(GATE)
 	@tail -n 1 $(GATE) | grep -qE '^[0-9]+ passed, 0 failed$$'
 
 # The static library of the proved operations, and the program that compares it with the second one.
-library:
+library: tools
 	@$(call told,rt staticlib register)
 	@cd compare && $(CARGO) build --release
 
 # The comparison's own tests, a smaller run for each operation, and every shared case. Each operation must say its line.
-compared: NEEDED := rt cargo rustc cc
 compared: tools library
 	@$(call tested,compare)
 	@for op in $(OPERATIONS); do compare/target/release/compare run --count 2000 --seed $(SEED) --op $$op | tee target/compare.log; \
 	  grep -qE "^$$op: [1-9][0-9]* cases, 0 differences$$" target/compare.log; done
 	@for file in vectors/*.txt; do compare/target/release/compare vectors $$file | grep agree; done
 
-compare: NEEDED := rt cargo rustc cc
 compare: tools library
 	@compare/target/release/compare run --count $(N) --seed $(SEED)
 
-bench: NEEDED := rt cargo rustc cc
 bench: tools library
 	@compare/target/release/compare bench
 
 # CASES is a file of cases; without one, the shared small cases and the sample lots are run.
-definitions: NEEDED := rt python3
 definitions: tools
 	@$(call told,rt check paper)
 	@for file in $(or $(CASES),vectors/lots.txt vectors/small.txt); do echo "$$file"; tools/definitions.py $$file; done
