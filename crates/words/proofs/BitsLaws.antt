@@ -1,7 +1,7 @@
 -- The cell reader never hands out a NaN as a number, so that the bits of what it hands out can be had; and a float's or a
 -- double's pattern, of a NaN too, is the first word of its cell.
 use mathlib.Core.Bool.{Bool, true, false, not, cond}
-use mathlib.Core.List.{List}
+use mathlib.Core.List.{List, [], _∷_}
 use mathlib.Core.Option.{Option, none, some}
 use mathlib.Core.Path.{_≡_, refl, sym, ap, _∙_}
 use Prim.Native.Nat.{ℕ, _*_, _<_}
@@ -15,7 +15,7 @@ use Rattle.paper.specs.Limits.{mostCell}
 use Rattle.paper.specs.Meaning.{Scalar, boolean, payload, text}
 use Rattle.paper.specs.Operations.{cellOutcome, cellReadBy, cellAnswer}
 use Rattle.paper.specs.Refusals.{reached, require, obtain}
-use Rattle.paper.specs.Schemas.{columnCode}
+use Rattle.paper.specs.Schemas.{Column, columnOf}
 use Rattle.paper.specs.Words.{at}
 use Rattle.paper.specs.declared.Cell.{Cell}
 use Rattle.paper.specs.declared.Refusal.the-variants.{TooLong, BadSchema, BadRow}
@@ -56,12 +56,16 @@ handed-has-bits (text s) = refl
 
 pub answer-has-bits : (code : ℕ) (s : List ℕ) → answerHasBits (cellAnswer code s) ≡ true
 unfolding cellAnswer cellReadBy cellOutcome require obtain
-answer-has-bits code s = go (leb (length s) mostCell) (columnCode code) (cellMeaning code s)
+answer-has-bits code s = go (leb (length s) mostCell) (columnOf (code ∷ []))
   where
-    go : (short known : Bool) (meaning : Option Scalar)
-        → answerHasBits (cellReadBy (require short TooLong (require known BadSchema (obtain meaning BadRow λ value. reached (handedOut value)))))
+    read : (meaning : Option Scalar) → answerHasBits (cellReadBy (obtain meaning BadRow λ value. reached (handedOut value))) ≡ true
+    read none = refl
+    read (some value) = handed-has-bits value
+
+    go : (short : Bool) (known : Option Column)
+        → answerHasBits (cellReadBy (require short TooLong
+        (obtain known BadSchema λ column. obtain (cellMeaning column s) BadRow λ value. reached (handedOut value))))
         ≡ true
-    go false known meaning = refl
-    go true false meaning = refl
-    go true true none = refl
-    go true true (some value) = handed-has-bits value
+    go false known = refl
+    go true none = refl
+    go true (some column) = read (cellMeaning column s)
