@@ -9,6 +9,7 @@ use lib.ListN.{length, drop, length-drop}
 use mir.Syntax.{w64}
 use mir.Val.{Fits}
 use Rattle.numbers.specs.Little.{numberAt}
+use Rattle.paper.specs.Bounds.{mostWalked}
 use Rattle.paper.specs.Values.{headSize, areaOf, startsOf, idsOf}
 use Rattle.paper.specs.Words.{numbers}
 use Rattle.containers.specs.Layouts.{Container, LaidOut}
@@ -35,7 +36,7 @@ module _ (s : List ℕ) (c i w : ℕ) (container : Container s c i w) where
     few : n ≤ n * w
     few = let e : n * 1 ≤ n * w = mul-le-mul (le-refl n) (container .least) in rw mul-one at e
 
-    pub count-few : n ≤ 65536
+    pub count-few : n ≤ mostWalked
     count-few = let small = container .small in omega (arith, head-parts, more, few)
 
     pub ids-fit : Fits w64 (n * i)
@@ -62,7 +63,7 @@ module _ (s : List ℕ) (c i w : ℕ) (container : Container s c i w) where
     n : ℕ
     n = l .count
 
-    pub layout-few : l .count ≤ 65536
+    pub layout-few : l .count ≤ mostWalked
     layout-few = count-few (l .count) (laid .count-is)
 
     pub starts-in : l .starts ≤ length s
@@ -100,14 +101,14 @@ module _ (s : List ℕ) (c i w : ℕ) (container : Container s c i w) where
     unfolding idsOf
     ids-same = rw (rest-is s (1 + c), laid .count-is)
 
-    pub area-small : length (rest s (l .area)) ≤ 65536
+    pub area-small : length (rest s (l .area)) ≤ mostWalked
     area-small = let small = container .small in rw (rest-is s (l .area), length-drop) (omega arith)
 
-    pub starts-few : length (rest s (l .starts)) ≤ 65536
+    pub starts-few : length (rest s (l .starts)) ≤ mostWalked
     starts-few = let small = container .small in rw (rest-is s (l .starts), length-drop) (omega arith)
 
     -- what the callees ask
-    pub lengths-asks : (l .count * l .width ≤ length (rest s (l .starts))) × (1 ≤ l .width) × (l .width ≤ 4) × (l .count ≤ 65536) × (length (rest s (l .area)) ≤ 65536)
+    pub lengths-asks : (l .count * l .width ≤ length (rest s (l .starts))) × (1 ≤ l .width) × (l .width ≤ 4) × (l .count ≤ mostWalked) × (length (rest s (l .area)) ≤ mostWalked)
     lengths-asks = (starts-there, width-there .0, width-there .1, layout-few, area-small)
 
   -- There are as many ids as starts.

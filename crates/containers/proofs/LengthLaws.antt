@@ -16,6 +16,7 @@ use Rattle.heads.specs.Extents.{extentAnswer}
 use Rattle.heads.specs.declared.Extent.the-variants.{Size, Unknown}
 use Rattle.heads.specs.declared.Extent.{Extent}
 use Rattle.numbers.specs.Little.{numberAt}
+use Rattle.paper.specs.Bounds.{mostWalked}
 use Rattle.paper.specs.Values.{Child, extent, childExtent, childrenAt, endToEnd}
 use Rattle.paper.specs.Words.{given, andThen, numbers}
 use Rattle.containers.specs.Children.{sizes, lengthsFrom, lengthsOf}
@@ -97,8 +98,8 @@ lengths-ended inOrder from end sum area = rw add-zero
 -- After i children: what is left decides together with what was seen.
 pub record LengthsSeen (area starts : List ℕ) (width count : ℕ) (inOrder : Bool) (from sum place i : ℕ) : Type 0 where
   pub standing : Standing width count place i
-  pub from-small : from ≤ 65536
-  pub sum-small : sum ≤ i * 65536
+  pub from-small : from ≤ mostWalked
+  pub sum-small : sum ≤ i * mostWalked
   pub whole : lengthsOf (length area) (childrenAt area (numbers width count starts))
       ≡ lengthsFrom inOrder from (length area) sum (childrenAt area (drop i (numbers width count starts)))
 
@@ -119,27 +120,27 @@ module _ {area starts : List ℕ} {width count : ℕ} {inOrder : Bool} {from sum
         sym (seen .whole ∙ ap (λ (l : List ℕ). lengthsFrom inOrder from (length area) sum (childrenAt area l)) next
         ∙ lengths-broken area inOrder from (length area) sum start (drop (i + 1) (numbers width count starts)) (unknown-none (childExtent area start) (sym told ∙ e)))
 
-    module _ (small : length area ≤ 65536) (r : Extent) (told : r ≡ extentAnswer (childExtent area start)) (size : ℕ) (e : r ≡ Size size) where
+    module _ (small : length area ≤ mostWalked) (r : Extent) (told : r ≡ extentAnswer (childExtent area start)) (size : ℕ) (e : r ≡ Size size) where
       known : childExtent area start ≡ some size
       known = size-some (childExtent area start) size (sym told ∙ e)
 
-      pub lengths-end : start + size ≤ 65536
+      pub lengths-end : start + size ≤ mostWalked
       lengths-end = let end = extent-fits area start size known .1 in omega arith
 
       pub lengths-end-fits : Fits w64 (start + size)
       lengths-end-fits = let end = lengths-end in record { fits = omega arith }
 
-      pub lengths-sum-fits : count ≤ 65536 → Fits w64 (sum + size)
+      pub lengths-sum-fits : count ≤ mostWalked → Fits w64 (sum + size)
       lengths-sum-fits most =
-          let end : start + size ≤ 65536 = lengths-end in
-          let sum-now : sum ≤ i * 65536 = seen .sum-small in
+          let end : start + size ≤ mostWalked = lengths-end in
+          let sum-now : sum ≤ i * mostWalked = seen .sum-small in
           record { fits = omega arith }
 
       pub lengths-next : (b : Bool) → b ≡ inOrder && eqb start from
           → LengthsSeen area starts width count b (start + size) (sum + size) (place + width) (i + 1)
       lengths-next b f =
-          let end : start + size ≤ 65536 = lengths-end in
-          let sum-now : sum ≤ i * 65536 = seen .sum-small in
+          let end : start + size ≤ mostWalked = lengths-end in
+          let sum-now : sum ≤ i * mostWalked = seen .sum-small in
           record {
             standing = standing-next (seen .standing) starts least there h;
             from-small = end;

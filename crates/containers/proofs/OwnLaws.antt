@@ -14,6 +14,7 @@ use mir.Val.{Fits}
 use Rattle.heads.specs.Extents.{extentAnswer}
 use Rattle.heads.specs.declared.Extent.the-variants.{Size}
 use Rattle.heads.specs.declared.Extent.{Extent}
+use Rattle.paper.specs.Bounds.{mostWalked}
 use Rattle.paper.specs.Values.{extent, childExtent, childBytes, whole, endsAt}
 use Rattle.paper.specs.Words.{at, isThere}
 use Rattle.heads.proofs.HeadLaws.{extent-positive, extent-take}
@@ -55,14 +56,14 @@ module _ (area : List ℕ) (start : ℕ) (r : Extent) (told : r ≡ extentAnswer
   pub known : childExtent area start ≡ some size
   known = size-some (childExtent area start) size (sym told ∙ e)
 
-  pub child-end : length area ≤ 65536 → Fits w64 (start + size)
+  pub child-end : length area ≤ mostWalked → Fits w64 (start + size)
   child-end small = let fit = extent-fits area start size known .1 in record { fits = omega arith }
 
   pub child-in : start + size ≤ length area
   child-in = extent-fits area start size known .1
 
   -- what the judging of the child asks
-  pub child-asks : length area ≤ 65536 → (whole (own area start size known) ≡ true) × (length (own area start size known) ≤ 65536)
+  pub child-asks : length area ≤ mostWalked → (whole (own area start size known) ≡ true) × (length (own area start size known) ≤ mostWalked)
   child-asks small =
       let size-is : length (own area start size known) ≡ size = own-size area start size known in
       let fit = child-in in

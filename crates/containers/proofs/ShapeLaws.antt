@@ -9,6 +9,7 @@ use native.Mathlib.Omega.{arith}
 use borrow.Author.Tests.{eqb-true}
 use lib.Dec.{eqb}
 use lib.ListN.{length}
+use Rattle.paper.specs.Bounds.{mostWalked}
 use Rattle.paper.specs.Metadata.{Dictionary, rising}
 use Rattle.paper.specs.Values.{Child, childrenAt, endToEnd, everyByteOnce, holders, areaOf, startsOf, idsOf, namesAt}
 use Rattle.paper.specs.Words.{numbers, allBelow}
@@ -145,7 +146,7 @@ module _ {s : List ℕ} {c i w : ℕ} (container : Container s c i w) {l : Layou
   once-covered b e = e ∙ rw (area-same s c i w container l laid, starts-same s c i w container l laid)
 
   pub covered-asks : (sum : ℕ) → r ≡ Scattered sum
-      → ((l .count * l .width ≤ length (rest s (l .starts))) × (1 ≤ l .width) × (l .width ≤ 4) × (l .count ≤ 65536) × (length (rest s (l .area)) ≤ 65536))
+      → ((l .count * l .width ≤ length (rest s (l .starts))) × (1 ≤ l .width) × (l .width ≤ 4) × (l .count ≤ mostWalked) × (length (rest s (l .area)) ≤ mostWalked))
       × (lengthsOf (length (rest s (l .area))) (childrenAt (rest s (l .area)) (numbers (l .width) (l .count) (rest s (l .starts)))) ≡ Scattered sum)
   covered-asks sum e = (lengths-asks s c i w container l laid, sym told ∙ e)
 

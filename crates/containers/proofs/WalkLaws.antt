@@ -14,6 +14,7 @@ use mir.Val.{Fits}
 use Rattle.heads.specs.Extents.{extentAnswer}
 use Rattle.heads.specs.declared.Extent.the-variants.{Size, Unknown}
 use Rattle.heads.specs.declared.Extent.{Extent}
+use Rattle.paper.specs.Bounds.{mostWalked}
 use Rattle.paper.specs.Values.{Child, childExtent, childrenAt, holders, everyByteOnce}
 use Rattle.paper.specs.Words.{oneIf, isThere, allBelow}
 use Rattle.containers.specs.Children.{sizes}
@@ -230,7 +231,7 @@ module _ {area marks : List ℕ} {place : ℕ} (seen : WalkSeen area marks place
           known : childExtent area place ≡ some size
           known = size-some (childExtent area place) size (sym told ∙ e)
 
-          pub seen-fits : length area ≤ 65536 → Fits w64 (place + size)
+          pub seen-fits : length area ≤ mostWalked → Fits w64 (place + size)
           seen-fits small = let fit = extent-fits area place size known in record { fits = omega arith }
 
           pub seen-falls : length area - (place + size) < length area - place

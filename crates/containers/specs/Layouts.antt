@@ -5,6 +5,7 @@ use mathlib.Core.Option.{some}
 use Prim.Native.Nat.{ℕ, _+_, _*_, _≤_}
 use lib.ListN.{length}
 use Rattle.numbers.specs.Little.{numberAt}
+use Rattle.paper.specs.Bounds.{mostWalked}
 use Rattle.paper.specs.Values.{headSize, containerExtent}
 use Rattle.containers.specs.declared.shape.Layout.{Layout}
 
@@ -16,7 +17,7 @@ pub record Container (s : List ℕ) (counted id width : ℕ) : Type 0 where
   pub id-most : id ≤ 4
   pub least : 1 ≤ width
   pub most : width ≤ 4
-  pub small : length s ≤ 65536
+  pub small : length s ≤ mostWalked
 
 pub record LaidOut (s : List ℕ) (counted id width : ℕ) (layout : Layout) : Type 0 where
   pub count-is : layout .count ≡ numberAt s 1 counted

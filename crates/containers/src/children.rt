@@ -4,6 +4,7 @@ ghost use mathlib.Core.Bool.{_&&_};
 ghost use Prim.Native.Nat.{_+_, _*_, _≤_, _<_};
 ghost use lib.Dec.{eqb};
 ghost use lib.ListN.{length};
+ghost use Rattle.paper.specs.Bounds.{mostWalked};
 ghost use Rattle.paper.specs.Words.{numbers};
 ghost use Rattle.paper.specs.Values.{childExtent, childrenAt};
 ghost use Rattle.heads.specs.Extents.{extentAnswer};
@@ -51,7 +52,7 @@ pub fn lengths_of(
     width: usize,
     count: usize,
 ) -> Lengths
-    requires { ⌜ Readings (now readings) × (count * width ≤ length (now starts)) × (1 ≤ width) × (width ≤ 4) × (count ≤ 65536) × (length (now area) ≤ 65536) ⌝ }
+    requires { ⌜ Readings (now readings) × (count * width ≤ length (now starts)) × (1 ≤ width) × (width ≤ 4) × (count ≤ mostWalked) × (length (now area) ≤ mostWalked) ⌝ }
     ensures { λ r. ⌜ r ≡ lengthsOf (length (now (area .entry))) (childrenAt (now (area .entry)) (numbers width count (now (starts .entry)))) ⌝ }
 {
     let mut in_order = true;

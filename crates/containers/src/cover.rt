@@ -6,6 +6,7 @@ ghost use Prim.Native.Nat.{ℕ, _*_, _/_, _≤_, _<_};
 ghost use lib.Dec.{eqb};
 ghost use lib.ListN.{length, replicate};
 ghost use Rattle.heads.specs.Packing.{Readings};
+ghost use Rattle.paper.specs.Bounds.{mostWalked};
 ghost use Rattle.paper.specs.Words.{numbers, allBelow};
 ghost use Rattle.paper.specs.Values.{Child, childrenAt, everyByteOnce};
 ghost use Rattle.containers.specs.Children.{lengthsOf, onceIn};
@@ -33,7 +34,7 @@ fn bit_set(marks: &[u8], place: usize) -> bool
 
 // Marks the starts that stand one after another, so many.
 fn mark(starts: &[u8], width: usize, count: usize, marks: &mut [u8])
-    requires { ⌜ (count * width ≤ length (now starts)) × (1 ≤ width) × (width ≤ 4) × (count ≤ 65536) ⌝ }
+    requires { ⌜ (count * width ≤ length (now starts)) × (1 ≤ width) × (width ≤ 4) × (count ≤ mostWalked) ⌝ }
     requires { ⌜ allBelow (8 * length (now marks)) (numbers width count (now starts)) ≡ true ⌝ }
     ensures { λ _. ⌜ now (marks .exit) ≡ markAll (now (marks .entry)) (numbers width count (now (starts .entry))) ⌝ }
 {
@@ -49,7 +50,7 @@ fn mark(starts: &[u8], width: usize, count: usize, marks: &mut [u8])
 
 // Walks the area from its start by the children's lengths; each step has to land on a mark.
 fn walk(readings: &[u8], area: &[u8], marks: &[u8]) -> bool
-    requires { ⌜ Readings (now readings) × (length (now area) ≤ 65536) × (length (now area) ≤ 8 * length (now marks)) ⌝ }
+    requires { ⌜ Readings (now readings) × (length (now area) ≤ mostWalked) × (length (now area) ≤ 8 * length (now marks)) ⌝ }
     ensures { λ r. ⌜ ((starts : List ℕ) (children : List Child) → Marked (now (area .entry)) starts children (now (marks .entry)) → r ≡ everyByteOnce (length (now (area .entry))) children) ⌝ }
 {
     let mut place = 0;
@@ -75,8 +76,8 @@ fn covered_by(
     count: usize,
     marks: &mut [u8],
 ) -> bool
-    requires { ⌜ Readings (now readings) × (count * width ≤ length (now starts)) × (1 ≤ width) × (width ≤ 4) × (count ≤ 65536) ⌝ }
-    requires { ⌜ (length (now area) ≤ 65536) × (length (now area) ≤ 8 * length (now marks)) × (now marks ≡ replicate (length (now marks)) 0) ⌝ }
+    requires { ⌜ Readings (now readings) × (count * width ≤ length (now starts)) × (1 ≤ width) × (width ≤ 4) × (count ≤ mostWalked) ⌝ }
+    requires { ⌜ (length (now area) ≤ mostWalked) × (length (now area) ≤ 8 * length (now marks)) × (now marks ≡ replicate (length (now marks)) 0) ⌝ }
     requires { ⌜ lengthsOf (length (now area)) (childrenAt (now area) (numbers width count (now starts))) ≡ Scattered (length (now area)) ⌝ }
     ensures { λ r. ⌜ r ≡ onceIn (length (now (area .entry))) (childrenAt (now (area .entry)) (numbers width count (now (starts .entry)))) ⌝ }
 {
@@ -94,7 +95,7 @@ pub fn covered(
     count: usize,
     sum: usize,
 ) -> bool
-    requires { ⌜ Readings (now readings) × (count * width ≤ length (now starts)) × (1 ≤ width) × (width ≤ 4) × (count ≤ 65536) × (length (now area) ≤ 65536) ⌝ }
+    requires { ⌜ Readings (now readings) × (count * width ≤ length (now starts)) × (1 ≤ width) × (width ≤ 4) × (count ≤ mostWalked) × (length (now area) ≤ mostWalked) ⌝ }
     requires { ⌜ lengthsOf (length (now area)) (childrenAt (now area) (numbers width count (now starts))) ≡ Scattered sum ⌝ }
     ensures { λ r. ⌜ r ≡ onceIn (length (now (area .entry))) (childrenAt (now (area .entry)) (numbers width count (now (starts .entry)))) ⌝ }
 {

@@ -60,20 +60,20 @@ fills s r told size e same = rw (size-some (extent s) size (sym told ∙ e)) (eq
 -- ---- the refusals, in their order
 
 module _ (m v : List ℕ) where
-  pub metadata-long : 16384 < length m → Refused TooLong ≡ documentOf m v
+  pub metadata-long : mostMetadata < length m → Refused TooLong ≡ documentOf m v
   unfolding documentOf documentBy checkOutcome documentFits require
-  metadata-long h = rw (lt-leb (length m) 16384 h)
+  metadata-long h = rw (lt-leb (length m) mostMetadata h)
 
-  module _ (short : length m ≤ 16384) where
-    pub value-long : 16384 < length v → Refused TooLong ≡ documentOf m v
+  module _ (short : length m ≤ mostMetadata) where
+    pub value-long : mostValue < length v → Refused TooLong ≡ documentOf m v
     unfolding documentOf documentBy checkOutcome documentFits require
-    value-long h = rw (le-leb (length m) 16384 short, lt-leb (length v) 16384 h)
+    value-long h = rw (le-leb (length m) mostMetadata short, lt-leb (length v) mostValue h)
 
-    module _ (small : length v ≤ 16384) (r : Judged) (told : r ≡ judgedOf m) where
+    module _ (small : length v ≤ mostValue) (r : Judged) (told : r ≡ judgedOf m) where
       -- a document that fits is judged by its metadata and its value
       fitting : checkOutcome m v ≡ judged m v (λ names d. reached d)
       unfolding checkOutcome documentFits require
-      fitting = rw (le-leb (length m) 16384 short, le-leb (length v) 16384 small)
+      fitting = rw (le-leb (length m) mostMetadata short, le-leb (length v) mostValue small)
 
       pub metadata-bad : r ≡ Broken → Refused BadMetadata ≡ documentOf m v
       unfolding documentOf documentBy judged valueJudged obtain
@@ -112,8 +112,8 @@ pub record LawfulDocument (m v : List ℕ) (names : Names) : Type 0 where
   pub opened-is : Opened m names
   pub doc-is : Doc
   pub means : meaningOf mostLevels (namesIn m) v ≡ some doc-is
-  pub metadata-short : length m ≤ 16384
-  pub short : length v ≤ 16384
+  pub metadata-short : length m ≤ mostMetadata
+  pub short : length v ≤ mostValue
   pub outcome : checkOutcome m v ≡ reached doc-is
 
 -- What is read of metadata that keeps its rules opens it.
@@ -123,12 +123,12 @@ read-opens m there = record { there = there; width = refl; count = refl; sorted 
 
 pub lawful-document : (m v : List ℕ) (names : Names) → documentOf m v ≡ Lawful names → LawfulDocument m v names
 unfolding documentOf documentBy checkOutcome documentFits require judged valueJudged obtain
-lawful-document m v names e = fitted (leb (length m) 16384) (leb (length v) 16384) refl refl e
+lawful-document m v names e = fitted (leb (length m) mostMetadata) (leb (length v) mostValue) refl refl e
   where
     refuse : (r : Refusal) → _≡_ {A = Document} (Refused r) (Lawful names) → LawfulDocument m v names
     refuse r f = absurd (let z : _≡_ {A = ℕ} 0 1 = cc in omega arith)
 
-    meant : (ns : Dictionary) → dictionaryOf m ≡ some ns → leb (length m) 16384 ≡ true → leb (length v) 16384 ≡ true
+    meant : (ns : Dictionary) → dictionaryOf m ≡ some ns → leb (length m) mostMetadata ≡ true → leb (length v) mostValue ≡ true
         → (x : Option Doc) → meaningOf mostLevels ns v ≡ x → documentBy (namesRead m) (obtain x BadValue λ d. reached d) ≡ Lawful names
         → LawfulDocument m v names
     meant ns is a b none f g = refuse BadValue g
@@ -140,18 +140,18 @@ lawful-document m v names e = fitted (leb (length m) 16384) (leb (length v) 1638
           opened-is = subst (Opened m) same opens;
           doc-is = d;
           means = ap (λ (x : Dictionary). meaningOf mostLevels x v) (sym those) ∙ f;
-          metadata-short = leb-true (length m) 16384 a;
-          short = leb-true (length v) 16384 b;
+          metadata-short = leb-true (length m) mostMetadata a;
+          short = leb-true (length v) mostValue b;
           outcome = rw (a, b, is, f);
         }
 
-    found : (x : Option Dictionary) → dictionaryOf m ≡ x → leb (length m) 16384 ≡ true → leb (length v) 16384 ≡ true
+    found : (x : Option Dictionary) → dictionaryOf m ≡ x → leb (length m) mostMetadata ≡ true → leb (length v) mostValue ≡ true
         → documentBy (namesRead m) (obtain x BadMetadata λ ns. obtain (meaningOf mostLevels ns v) BadValue λ d. reached d) ≡ Lawful names
         → LawfulDocument m v names
     found none is a b f = refuse BadMetadata f
     found (some ns) is a b f = meant ns is a b (meaningOf mostLevels ns v) refl f
 
-    fitted : (p q : Bool) → leb (length m) 16384 ≡ p → leb (length v) 16384 ≡ q
+    fitted : (p q : Bool) → leb (length m) mostMetadata ≡ p → leb (length v) mostValue ≡ q
         → documentBy (namesRead m) (require (p && q) TooLong (judged m v λ ns d. reached d)) ≡ Lawful names → LawfulDocument m v names
     fitted true true a b f = found (dictionaryOf m) refl a b f
     fitted true false a b f = refuse TooLong f

@@ -1,11 +1,10 @@
--- How long what is written is, against what was read: never more than twice as long. So the normal form of a lent document
--- has a value of at most twice the most bytes of one.
+-- How long what is written is, against what was read: never more than twice as long. So is the normal value of a lent
+-- document, against the value that was lent.
 use mathlib.Core.Bool.{Bool, true, false, cond}
 use mathlib.Core.List.{List, _∷_, map}
 use mathlib.Core.Option.{Option, none, some, Option·some-injective as some-injective}
 use mathlib.Core.Path.{_≡_, refl, sym, ap, _∙_}
 use Prim.Native.Nat.{ℕ, zero, suc, _+_, _*_, _/_, _≤_, _<_}
-use native.Mathlib.Nat.{mul-le-mul, mul-one}
 use native.Mathlib.Omega.{arith}
 use borrow.Author.Tests.{leb-true, le-leb, ne-eqb}
 use lib.Dec.{leb, eqb}
@@ -14,9 +13,9 @@ use Rattle.forms.specs.WellFormed.{namesThere}
 use Rattle.numbers.specs.Little.{smallestWidth}
 use Rattle.paper.proofs.MeaningLaws.{prefixedDoc, string-is, prefixed-is}
 use Rattle.paper.specs.FirstBytes.{readingOf}
-use Rattle.paper.specs.Limits.{mostMetadata, mostValue}
+use Rattle.paper.specs.Bounds.{mostNames}
 use Rattle.paper.specs.Meaning.{boolean, payload, text, Doc, null, scalar, array, object, Docs, Fields}
-use Rattle.paper.specs.Metadata.{Dictionary, offsetSize, dictionaryOf}
+use Rattle.paper.specs.Metadata.{Dictionary}
 use Rattle.paper.specs.Normal.{namesUsed, normalForm, largest, prefixedBytes, textBytes, scalarBytes, idOf, fieldNames, valueBytes, elementBytes, memberBytes}
 use Rattle.paper.specs.Values.{Child, extentBy, areaOf, idsOf, namesAt, elementsOf, membersOf, primitiveMeaning, elementDocs, memberDocs, meaningBy, meaningOf, whole}
 use Rattle.paper.specs.Words.{at, isThere}
@@ -31,7 +30,6 @@ use Rattle.forms.proofs.WellFormedLaws.{never-marked, decoded-names-the
 use Rattle.forms.proofs.NamesLaws.{there-used, normal-names-there}
 use Rattle.heads.proofs.HeadLaws.{extent-some, array-spans, object-spans}
 use Rattle.heads.proofs.ReadingLaws.{fixed-sizes, short-sizes, array-sizes, object-sizes}
-use Rattle.names.proofs.NeverLongerLaws.{read-length}
 use Rattle.names.proofs.ContainedLaws.{contained-count}
 use Rattle.names.proofs.UsedLaws.{names-rise, among-used}
 use Rattle.numbers.proofs.WidthLaws.{smallest-least}
@@ -74,7 +72,7 @@ module _ (used : Dictionary) where
 
 -- ---- any value
 
-module _ (names used : Dictionary) (few : length used ≤ 65536) (decode : List ℕ → Option Doc)
+module _ (names used : Dictionary) (few : length used ≤ mostNames) (decode : List ℕ → Option Doc)
     (each : Grows used decode)
     (s : List ℕ) (d : Doc) (bytes : Bytes s) (short : length s ≤ mostRead) (fills : whole s ≡ true) (there : namesThere used d ≡ true) where
   abbrev Grown : Type 0
@@ -168,7 +166,7 @@ module _ (names used : Dictionary) (few : length used ≤ 65536) (decode : List 
   grows-by Nothing is e = never (sym (some-there none e))
 
 pub value-grows : (levels : ℕ) (names used : Dictionary) (s : List ℕ) (d : Doc) → meaningOf levels names s ≡ some d → Bytes s → length s ≤ mostRead
-    → namesThere used d ≡ true → length used ≤ 65536 → length (valueBytes used d) ≤ 2 * length s
+    → namesThere used d ≡ true → length used ≤ mostNames → length (valueBytes used d) ≤ 2 * length s
 unfolding meaningOf isThere
 value-grows zero names used s d e bytes short there few = never (sym (some-there none e))
 value-grows (suc levels) names used s d e bytes short there few =
@@ -179,20 +177,10 @@ value-grows (suc levels) names used s d e bytes short there few =
 -- ---- the normal form of a lent document
 
 module _ (levels : ℕ) (names : Dictionary) (s : List ℕ) (d : Doc) (is : meaningOf levels names s ≡ some d) (bytes : Bytes s) where
-  pub normal-grows : length s ≤ mostRead → length names ≤ 65536 → length (normalForm d .value) ≤ 2 * length s
+  pub normal-grows : length s ≤ mostRead → length names ≤ mostNames → length (normalForm d .value) ≤ 2 * length s
   unfolding normalForm
   normal-grows short few =
       let fewer : length (namesUsed d) ≤ length names =
       contained-count (namesUsed d) names (names-rise d)
       (λ name in-used. there-used names d (decoded-names-there levels names s d is) name (sym (among-used name d) ∙ in-used)) in
       value-grows levels names (namesUsed d) s d is bytes short (normal-names-there d) (omega arith)
-
-  pub normal-most : (metadata : List ℕ) → dictionaryOf metadata ≡ some names → length metadata ≤ mostMetadata → length s ≤ mostValue
-      → length (normalForm d .value) ≤ 2 * mostValue
-  unfolding offsetSize
-  normal-most metadata read fits short =
-      let all = read-length metadata names read in
-      let one : (length names + 1) * 1 ≤ (length names + 1) * offsetSize (at metadata 0) = mul-le-mul (omega arith) (omega arith) in
-      let same = mul-one (length names + 1) in
-      let grown = normal-grows (omega arith) (omega arith) in
-      omega arith

@@ -11,6 +11,7 @@ use mir.Val.{Fits}
 use Rattle.marking.specs.Ids.{idsOfAll, idsInside, idsIn, markIds}
 use Rattle.marking.specs.Marking.{MarkableChild, MarkableInside, idsOfSized, idsAt}
 use Rattle.numbers.specs.Little.{numberAt}
+use Rattle.paper.specs.Bounds.{mostWalked}
 use Rattle.paper.specs.Meaning.{Doc}
 use Rattle.paper.specs.Metadata.{Dictionary}
 use Rattle.paper.specs.Values.{Child, childExtent, childrenAt, childBytes, areaOf, startsOf, meaningOf}
@@ -65,10 +66,10 @@ pub record InsideSeen (levels : ℕ) (s : List ℕ) (c i w : ℕ) (area starts :
   pub most : w ≤ 4
   pub standing : Standing w count place k
   pub starts-in : count * w ≤ length starts
-  pub starts-small : length starts ≤ 65536
+  pub starts-small : length starts ≤ mostWalked
   pub same-area : area ≡ areaOf c i w s
   pub same-starts : numbers w count starts ≡ startsOf c i w s
-  pub small : length area ≤ 65536
+  pub small : length area ≤ mostWalked
   pub left-good : insidesGood (meaningOf levels names) area (childrenAt area (drop k (numbers w count starts))) ≡ true
   pub whole-is : markIds used₀ (idsInside (idsIn levels) area (childrenAt area (numbers w count starts)))
       ≡ markIds used (idsInside (idsIn levels) area (childrenAt area (drop k (numbers w count starts))))

@@ -2,6 +2,7 @@
 pub mod Words
 pub mod Limits
 pub mod Constants
+pub mod Bounds
 pub mod Refusals
 pub mod Metadata
 pub mod FirstBytes

@@ -12,6 +12,7 @@ use Rattle.heads.specs.Extents.{extentAnswer}
 use Rattle.heads.specs.declared.Extent.the-variants.{Size, Unknown}
 use Rattle.heads.specs.declared.Extent.{Extent}
 use Rattle.numbers.specs.Little.{numberAt}
+use Rattle.paper.specs.Bounds.{mostWalked}
 use Rattle.paper.specs.FirstBytes.{readingOf}
 use Rattle.paper.specs.Meaning.{Doc}
 use Rattle.paper.specs.Metadata.{Dictionary}
@@ -102,10 +103,10 @@ module _ (inner : List ℕ → Option Doc) (area : List ℕ) (start : ℕ) (more
 pub record InsidesSeen (inner : List ℕ → Option Doc) (s : List ℕ) (c i w : ℕ) (area starts : List ℕ) (count place k : ℕ) : Type 0 where
   pub standing : Standing w count place k
   pub starts-in : count * w ≤ length starts
-  pub starts-small : length starts ≤ 65536
+  pub starts-small : length starts ≤ mostWalked
   pub same-area : area ≡ areaOf c i w s
   pub same-starts : numbers w count starts ≡ startsOf c i w s
-  pub small : length area ≤ 65536
+  pub small : length area ≤ mostWalked
   pub left-there : isThere (childrenAt area (drop k (numbers w count starts))) ≡ true
   pub whole-is : insidesGood inner area (childrenAt area (numbers w count starts)) ≡ insidesGood inner area (childrenAt area (drop k (numbers w count starts)))
 
@@ -149,7 +150,7 @@ module _ {inner : List ℕ → Option Doc} {s : List ℕ} {c i w : ℕ} {area st
     left = sym (ap (λ (l : List ℕ). isThere (childrenAt area l)) next) ∙ seen .left-there
 
     -- what the judging of the child asks
-    pub next-asks : (isThere (childExtent area start) ≡ true) × (length area ≤ 65536)
+    pub next-asks : (isThere (childExtent area start) ≡ true) × (length area ≤ mostWalked)
     next-asks = (there-more inner area start (drop (k + 1) (numbers w count starts)) left .0, seen .small)
 
     -- b is what the judging of the child answered

@@ -7,6 +7,7 @@ use Prim.Native.Nat.{ℕ, zero, suc, _-_, _≤_, _<_}
 use native.Mathlib.Omega.{arith}
 use lib.Dec.{eqb}
 use lib.ListN.{length, drop}
+use Rattle.paper.specs.Bounds.{mostWalked}
 use Rattle.paper.proofs.MeaningLaws.{string-there, prefixed-there}
 use Rattle.paper.specs.FirstBytes.{readingOf}
 use Rattle.paper.specs.Metadata.{Dictionary, rising}
@@ -64,7 +65,7 @@ module _ (s : List ℕ) (fills : whole s ≡ true) (r : Reading) (told : r ≡ r
   pub fixed-asks : (code size : ℕ) → r ≡ Fixed code size → (whole s ≡ true) × (readingOf (at s 0) ≡ Fixed code size)
   fixed-asks code size e = (fills, sym told ∙ e)
 
-  pub array-container : (c w : ℕ) → r ≡ ArrayHead c w → length s ≤ 65536 → Container s c 0 w
+  pub array-container : (c w : ℕ) → r ≡ ArrayHead c w → length s ≤ mostWalked → Container s c 0 w
   unfolding extentBy
   array-container c w e small =
       let sizes = array-sizes (at s 0) (sym told ∙ e) in
@@ -78,7 +79,7 @@ module _ (s : List ℕ) (fills : whole s ≡ true) (r : Reading) (told : r ≡ r
         small = small;
       }
 
-  pub object-container : (c i w : ℕ) → r ≡ ObjectHead c i w → length s ≤ 65536 → Container s c i w
+  pub object-container : (c i w : ℕ) → r ≡ ObjectHead c i w → length s ≤ mostWalked → Container s c i w
   unfolding extentBy
   object-container c i w e small =
       let sizes = object-sizes (at s 0) (sym told ∙ e) in
@@ -160,7 +161,7 @@ module _ (levels : ℕ) (names : Dictionary) (s : List ℕ) (some-left : levels 
 
     -- ---- an object
 
-    module _ (c i w : ℕ) (e : r ≡ ObjectHead c i w) (small : length s ≤ 65536) where
+    module _ (c i w : ℕ) (e : r ≡ ObjectHead c i w) (small : length s ≤ mostWalked) where
       object-is : isThere (meaningOf levels names s)
           ≡ (allBelow (length names) (idsOf c i s) && rising (namesAt names (idsOf c i s)))
           && (onceIn (length (areaOf c i w s)) (childrenAt (areaOf c i w s) (startsOf c i w s))
