@@ -9,23 +9,8 @@ use Rattle.signed.proofs.SignedLaws.{signed-low, signed-high, minus-fit
 use Rattle.signed.proofs.signed.Statement.{statement}
 use Rattle.signed.proofs.signed.Tie as tie
 
-half-of-requires : tie.Need-half-of-requires
-half-of-requires c κs = search needs
-
-cast-result : tie.Need-cast-result
-cast-result c = search needs
-
 returns : tie.Need-returns
 returns c = toZ-pos w64 (omega arith) ∙ sym (signed-low _ _ _ (c .before .half-of .ensures .0) (c .if1 .taken))
-
-sub-below : tie.Need-sub-below
-sub-below c = search needs
-
-sub-below-2 : tie.Need-sub-below-2
-sub-below-2 c = search needs
-
-cast-result-2 : tie.Need-cast-result-2
-cast-result-2 c = search needs
 
 sub-result : tie.Need-sub-result
 sub-result c =
@@ -38,12 +23,5 @@ returns-2 c = minus-is _ (omega arith) ∙ sym (signed-high _ _ _ (c .before .ha
 pub signed-spec : {M : Type 1} → statement M
 signed-spec =
     tie.close
-    (tie.spec
-    half-of-requires
-    cast-result
-    returns
-    sub-below
-    sub-below-2
-    cast-result-2
-    sub-result
-    returns-2)
+    (tie.spec (λ c κs. search needs) (λ c. search needs) returns
+    (λ c. search needs) (λ c. search needs) (λ c. search needs) sub-result returns-2)

@@ -7,32 +7,17 @@ use Rattle.signed.proofs.SignedLaws.{bytes-handed}
 use Rattle.signed.proofs.write_signed.Statement.{statement}
 use Rattle.signed.proofs.write_signed.Tie as tie
 
-unsigned-requires : tie.Need-unsigned-requires
-unsigned-requires c κs = search needs
-
-write8-requires : tie.Need-write8-requires
-write8-requires c κs = search needs
-
-unsigned-requires-2 : tie.Need-unsigned-requires-2
-unsigned-requires-2 c κs = search needs
-
 write-requires : tie.Need-write-requires
 write-requires c κs =
     let width = c .before .before .before .before .pre .1 in
     let most = width .none-between (c .before .before .if1 .left) in
     (omega arith, omega arith, omega arith)
 
-same-length : tie.Need-same-length
-same-length c = search needs
-
 returns : tie.Need-returns
 returns c =
     let start = c .before .before .before .before .before .before .before in
     c .before .before .write8 .ensures
     ∙ ap (putAt _ _) (bytes-handed _ _ _ (start .fits .z) (start .pre .1 .most) (omega arith) (c .before .before .before .unsigned .ensures))
-
-same-length-2 : tie.Need-same-length-2
-same-length-2 c = search needs
 
 returns-2 : tie.Need-returns-2
 returns-2 c =
@@ -43,12 +28,6 @@ returns-2 c =
 pub write-signed-spec : {M : Type 1} → statement M
 write-signed-spec =
     tie.close
-    (tie.spec
-    unsigned-requires
-    write8-requires
-    unsigned-requires-2
-    write-requires
-    same-length
-    returns
-    same-length-2
-    returns-2)
+    (tie.spec (λ c κs. search needs) (λ c κs. search needs) (λ c κs. search needs) write-requires
+    (λ c. search needs) returns
+    (λ c. search needs) returns-2)

@@ -16,70 +16,12 @@ abbrev μ-loop : tie.MeasureT-loop
 loop-holds : tie.Need-loop-holds Inv-loop μ-loop
 loop-holds c = lengths-start _ _ _ _
 
-read-requires : tie.Need-read-requires Inv-loop μ-loop
-read-requires c κs = search (needs, standing-there)
-
-child-extent-requires : tie.Need-child-extent-requires Inv-loop μ-loop
-child-extent-requires c κs = search needs
-
-enum-known-size : tie.Need-enum-known-size Inv-loop μ-loop
-enum-known-size c = search needs
-
-enum-told : tie.Need-enum-told Inv-loop μ-loop
-enum-told c = search needs
-
-returns : tie.Need-returns Inv-loop μ-loop
-returns c = search (needs, lengths-lost)
-
-follows-requires : tie.Need-follows-requires Inv-loop μ-loop
-follows-requires c κs = search needs
-
-add-from : tie.Need-add-from Inv-loop μ-loop
-add-from c = search (needs, lengths-end-fits)
-
-add-sum : tie.Need-add-sum Inv-loop μ-loop
-add-sum c = search (needs, lengths-sum-fits)
-
-add-place : tie.Need-add-place Inv-loop μ-loop
-add-place c = search (needs, standing-fits)
-
-add-i : tie.Need-add-i Inv-loop μ-loop
-add-i c = search needs
-
-loop-less : tie.Need-loop-less Inv-loop μ-loop
-loop-less c = search needs
-
-loop-again : tie.Need-loop-again Inv-loop μ-loop
-loop-again c = search (needs, lengths-next)
-
-follows-requires-2 : tie.Need-follows-requires-2 Inv-loop μ-loop
-follows-requires-2 c κs = search needs
-
-returns-2 : tie.Need-returns-2 Inv-loop μ-loop
-returns-2 c = search (needs, lengths-tiled)
-
-returns-3 : tie.Need-returns-3 Inv-loop μ-loop
-returns-3 c = search (needs, lengths-scattered)
-
 pub lengths-of-spec : {M : Type 1} → statement M
 lengths-of-spec =
     tie.close
-    (tie.spec
-    Inv-loop
-    μ-loop
-    loop-holds
-    read-requires
-    child-extent-requires
-    enum-known-size
-    enum-told
-    returns
-    follows-requires
-    add-from
-    add-sum
-    add-place
-    add-i
-    loop-less
-    loop-again
-    follows-requires-2
-    returns-2
-    returns-3)
+    (tie.spec Inv-loop μ-loop loop-holds (λ c κs. search (needs, standing-there))
+    (λ c κs. search needs) (λ c. search needs) (λ c. search needs) (λ c. search (needs, lengths-lost))
+    (λ c κs. search needs) (λ c. search (needs, lengths-end-fits)) (λ c. search (needs, lengths-sum-fits))
+    (λ c. search (needs, standing-fits))
+    (λ c. search needs) (λ c. search needs) (λ c. search (needs, lengths-next))
+    (λ c κs. search needs) (λ c. search (needs, lengths-tiled)) (λ c. search (needs, lengths-scattered)))

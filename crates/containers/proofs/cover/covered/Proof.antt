@@ -7,24 +7,12 @@ use Rattle.containers.proofs.CoveredLaws.{covered-sum, covered-lie}
 use Rattle.containers.proofs.cover.covered.Statement.{statement}
 use Rattle.containers.proofs.cover.covered.Tie as tie
 
-returns : tie.Need-returns
-returns c = search (needs, covered-sum)
-
-slice-aggregate-covered-by : tie.Need-slice-aggregate-covered-by
-slice-aggregate-covered-by c = search needs
-
 covered-by-requires : tie.Need-covered-by-requires
 covered-by-requires c κs =
     let pre = c .before .before .before .before .before .before .pre in
     let lent = c .before .before .before .before .before .before .args in
     let run = numbers (lent .width) (lent .count) (lent .starts .now) in
     ((pre .0 .0, pre .0 .1, pre .0 .2, pre .0 .3, pre .0 .4), ((pre .0 .5, omega arith, refl), covered-lie (lent .area .now) run (lent .sum) (pre .1) (search needs)))
-
-returns-2 : tie.Need-returns-2
-returns-2 c = search needs
-
-slice-aggregate-covered-by-2 : tie.Need-slice-aggregate-covered-by-2
-slice-aggregate-covered-by-2 c = search needs
 
 covered-by-requires-2 : tie.Need-covered-by-requires-2
 covered-by-requires-2 c κs =
@@ -33,12 +21,6 @@ covered-by-requires-2 c κs =
     let run = numbers (lent .width) (lent .count) (lent .starts .now) in
     ((pre .0 .0, pre .0 .1, pre .0 .2, pre .0 .3, pre .0 .4), ((pre .0 .5, omega arith, refl), covered-lie (lent .area .now) run (lent .sum) (pre .1) (search needs)))
 
-returns-3 : tie.Need-returns-3
-returns-3 c = search needs
-
-slice-aggregate-covered-by-3 : tie.Need-slice-aggregate-covered-by-3
-slice-aggregate-covered-by-3 c = search needs
-
 covered-by-requires-3 : tie.Need-covered-by-requires-3
 covered-by-requires-3 c κs =
     let pre = c .before .before .before .before .before .before .before .pre in
@@ -46,20 +28,11 @@ covered-by-requires-3 c κs =
     let run = numbers (lent .width) (lent .count) (lent .starts .now) in
     ((pre .0 .0, pre .0 .1, pre .0 .2, pre .0 .3, pre .0 .4), ((pre .0 .5, omega arith, refl), covered-lie (lent .area .now) run (lent .sum) (pre .1) (search needs)))
 
-returns-4 : tie.Need-returns-4
-returns-4 c = search needs
-
 pub covered-spec : {M : Type 1} → statement M
 covered-spec =
     tie.close
-    (tie.spec
-    returns
-    slice-aggregate-covered-by
-    covered-by-requires
-    returns-2
-    slice-aggregate-covered-by-2
-    covered-by-requires-2
-    returns-3
-    slice-aggregate-covered-by-3
-    covered-by-requires-3
-    returns-4)
+    (tie.spec (λ c. search (needs, covered-sum))
+    (λ c. search needs) covered-by-requires
+    (λ c. search needs) (λ c. search needs) covered-by-requires-2
+    (λ c. search needs) (λ c. search needs) covered-by-requires-3
+    (λ c. search needs))

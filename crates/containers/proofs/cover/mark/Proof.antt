@@ -15,42 +15,10 @@ abbrev μ-loop : tie.MeasureT-loop
 loop-holds : tie.Need-loop-holds Inv-loop μ-loop
 loop-holds c = marks-start _ _ _ _
 
-read-requires : tie.Need-read-requires Inv-loop μ-loop
-read-requires c κs = search (needs, standing-there)
-
-set-bit-requires : tie.Need-set-bit-requires Inv-loop μ-loop
-set-bit-requires c κs = search (needs, mark-inside)
-
-add-place : tie.Need-add-place Inv-loop μ-loop
-add-place c = search (needs, standing-fits)
-
-add-i : tie.Need-add-i Inv-loop μ-loop
-add-i c = search needs
-
-loop-less : tie.Need-loop-less Inv-loop μ-loop
-loop-less c = search needs
-
-loop-again : tie.Need-loop-again Inv-loop μ-loop
-loop-again c = search (needs, marks-next)
-
-same-length : tie.Need-same-length Inv-loop μ-loop
-same-length c = search needs
-
-returns : tie.Need-returns Inv-loop μ-loop
-returns c = search (needs, marks-done)
-
 pub mark-spec : {M : Type 1} → statement M
 mark-spec =
     tie.close
-    (tie.spec
-    Inv-loop
-    μ-loop
-    loop-holds
-    read-requires
-    set-bit-requires
-    add-place
-    add-i
-    loop-less
-    loop-again
-    same-length
-    returns)
+    (tie.spec Inv-loop μ-loop loop-holds (λ c κs. search (needs, standing-there))
+    (λ c κs. search (needs, mark-inside)) (λ c. search (needs, standing-fits))
+    (λ c. search needs) (λ c. search needs) (λ c. search (needs, marks-next))
+    (λ c. search needs) (λ c. search (needs, marks-done)))
