@@ -135,8 +135,8 @@ module _ (names used : Dictionary) (few : length used ≤ mostNames) (decode : L
       let grown =
       members-grow used decode each (areaOf c i w s) area-whole area-small (namesAt names (idsOf c i s)) children fs (lie-sized lie) f all-there in
       let ids : List ℕ = map (idOf used) (fieldNames fs) in
-      let largest-small : largest ids < 65536 = largest-below (length used) 65536 ids (ids-below used fs all-there) few (omega arith) in
-      let narrow : smallestWidth (largest ids) ≤ 2 = smallest-least (largest ids) 2 (omega arith) largest-small in
+      let largest-small : largest ids < mostNames = largest-below (length used) mostNames ids (ids-below used fs all-there) few (omega arith) in
+      let narrow : smallestWidth (largest ids) ≤ 2 = smallest-least (largest ids) 2 (omega arith) (omega arith) in
       let least : 1 ≤ i = bounds .1 .0 in
       rw (object-length ids (memberBytes used fs) (ids-length used fs))
       (container-grows s bytes short c i w spans (bounds .0 .0) (bounds .2 .0) children lie (memberBytes used fs) (smallestWidth (largest ids)) grown

@@ -128,7 +128,8 @@ module _ (s : List ℕ) (bytes : Bytes s) (short : length s ≤ mostRead) (c i w
     unfolding headSize
     container-grows children lie parts i′ grown id =
         let all = area-rest in
-        let offsets : 1 * 1 ≤ (numberAt s 1 c + 1) * w = mul-le-mul (omega arith) wide in
+        let some-offset : 1 ≤ numberAt s 1 c + 1 = omega arith in
+        let offsets : 1 * 1 ≤ (numberAt s 1 c + 1) * w = mul-le-mul some-offset wide in
         let many = children-few children lie in
         let sum = lie-sizes lie in
         let few : length parts ≤ numberAt s 1 c = omega arith in
