@@ -8,11 +8,16 @@ ghost use Rattle.paper.specs.Values.{namesAt};
 ghost use Rattle.paper.specs.Words.{allBelow};
 ghost use Rattle.dictionary.specs.Judging.{Opened};
 ghost use Rattle.ranking.specs.Ranks.{usedIds, neverFalls, Listed, RanksOf, Folded, Ranked};
-use crate::sorting::comes_before;
 use crate::sorting::in_order;
 use crate::sorting::sort;
-use crate::tables::entry;
+use crate::tables::id_at;
+use crate::tables::put_id;
+use crate::tables::set_normal;
+use dictionary::InputId;
 use dictionary::Names;
+use dictionary::NormalId;
+use dictionary::comes_before;
+use marking::is_used;
 
 // Lists the used ids below a count, rising, and answers how many they are.
 fn collect(used: &[u8], count: usize, chosen: &mut [u16]) -> usize
@@ -22,8 +27,9 @@ fn collect(used: &[u8], count: usize, chosen: &mut [u16]) -> usize
     let mut n = 0;
     let mut i = 0;
     while i < count {
-        if used[i] == 1 {
-            chosen[n] = i as u16;
+        let id = InputId(i);
+        if is_used(used, id) {
+            put_id(chosen, n, id);
             n += 1;
         }
         i += 1;
@@ -38,8 +44,7 @@ fn place(ids: &[u16], ranks: &mut [u16])
 {
     let mut i = 0;
     while i < ids.len() {
-        let id = entry(ids, i);
-        ranks[id] = i as u16;
+        set_normal(ranks, id_at(ids, i), NormalId(i));
         i += 1;
     }
 }
@@ -53,17 +58,18 @@ fn fold(metadata: &[u8], names: Names, ids: &mut [u16], ranks: &mut [u16]) -> us
     if ids.len() == 0 {
         return 0;
     }
-    let mut last = entry(ids, 0);
-    ranks[last] = 0;
+    let mut last = id_at(ids, 0);
+    set_normal(ranks, last, NormalId(0));
     let mut kept = 1;
     let mut i = 1;
     while i < ids.len() {
-        let id = entry(ids, i);
+        let id = id_at(ids, i);
         if comes_before(metadata, names, last, id) {
-            ids[kept] = ids[i];
+            put_id(ids, kept, id);
             kept += 1;
         }
-        ranks[id] = (kept - 1) as u16;
+        let place = kept - 1;
+        set_normal(ranks, id, NormalId(place));
         last = id;
         i += 1;
     }
