@@ -31,7 +31,6 @@ use Rattle.paper.specs.declared.Refusal.{Refusal}
 use Rattle.dictionary.proofs.DictionaryLaws.{opened-names}
 use Rattle.documents.proofs.DocumentLaws.{LawfulDocument, lawful-document}
 use Rattle.paper.proofs.WordLaws.{never, some-there}
-use Rattle.words.proofs.BoundaryLaws.{one-answer}
 
 -- ---- what comes next is come to from a lawful document; another is refused as check refuses it
 
@@ -165,14 +164,3 @@ module _ (m v p : List ℕ) (good : Bool) (told : good ≡ isThere (pathOf p)) w
           → f ≡ foundBy (orElse BadPath x λ steps. reached (findFrom (namesIn m) steps 0 v))
       go none e is = never (sym e)
       go (some steps) e is = is steps refl
-
--- ---- no second answer satisfies a contract
-
-pub one-check : (m v : List ℕ) (r other : Checked) → r ≡ checkAnswer m v → other ≡ checkAnswer m v → r ≡ other
-one-check m v r other = one-answer
-
-pub one-find : (m v p : List ℕ) (r other : Found) → r ≡ findAnswer m v p → other ≡ findAnswer m v p → r ≡ other
-one-find m v p r other = one-answer
-
-pub one-box : (m v : List ℕ) (r other : BoxAnswer) → r ≡ boxAnswer m v → other ≡ boxAnswer m v → r ≡ other
-one-box m v r other = one-answer

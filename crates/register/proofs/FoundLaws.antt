@@ -18,7 +18,7 @@ use Rattle.paper.specs.Values.{Child, meaningOf}
 use Rattle.paper.specs.Words.{isThere}
 use Rattle.paper.specs.declared.Refusal.the-variants.{TooLong, BadMetadata, BadValue, BadPath}
 use Rattle.paths.specs.Places.{LawfulIn}
-use Rattle.words.specs.Boundary.{foundFits}
+use Rattle.words.specs.Boundary.{foundHasRoom}
 use Rattle.paper.proofs.WordLaws.{and-both, some-there}
 use Rattle.paths.proofs.FindLaws.{found-inside}
 
@@ -33,22 +33,22 @@ module _ (v : List ℕ) (short : length v ≤ 16384) (names : Dictionary) (meant
   lawful : LawfulIn names v
   lawful = record { levels = mostLevels; meant = meant; small = omega arith }
 
-  along : (steps : List Step) → foundFits (foundBy (reached (findFrom names steps 0 v))) ≡ true
-  unfolding foundFits foundBy
+  along : (steps : List Step) → foundHasRoom (foundBy (reached (findFrom names steps 0 v))) ≡ true
+  unfolding foundBy
   along steps = go (findFrom names steps 0 v) refl
     where
-      go : (x : Option Child) → findFrom names steps 0 v ≡ x → foundFits (foundBy (reached x)) ≡ true
+      go : (x : Option Child) → findFrom names steps 0 v ≡ x → foundHasRoom (foundBy (reached x)) ≡ true
       go none e = refl
       go (some child) e =
           let inside = found-inside names steps 0 v child lawful e in small (child .start) (child .size) (omega arith)
 
-  path-fits : (x : Option (List Step)) → foundFits (foundBy (orElse BadPath x λ steps. reached (findFrom names steps 0 v))) ≡ true
-  unfolding orElse foundFits foundBy
+  path-fits : (x : Option (List Step)) → foundHasRoom (foundBy (orElse BadPath x λ steps. reached (findFrom names steps 0 v))) ≡ true
+  unfolding orElse foundBy
   path-fits none = refl
   path-fits (some steps) = along steps
 
-pub found-fits : (m v p : List ℕ) → foundFits (findAnswer m v p) ≡ true
-unfolding findAnswer findOutcome judged unless orElse foundBy foundFits documentFits mostValue
+pub found-fits : (m v p : List ℕ) → foundHasRoom (findAnswer m v p) ≡ true
+unfolding findAnswer findOutcome judged unless orElse foundBy documentFits mostValue
 found-fits m v p = go (documentFits m v && leb (length p) mostPath) refl (dictionaryOf m)
   where
     short : documentFits m v && leb (length p) mostPath ≡ true → length v ≤ 16384
@@ -57,12 +57,12 @@ found-fits m v p = go (documentFits m v && leb (length p) mostPath) refl (dictio
         leb-true (length v) 16384 (and-both (leb (length m) mostMetadata) (leb (length v) 16384) (both .0) .1)
 
     inner : length v ≤ 16384 → (names : Dictionary) (x : Option Doc) → meaningOf mostLevels names v ≡ x
-        → foundFits (foundBy (orElse BadValue x λ d. orElse BadPath (pathOf p) λ steps. reached (findFrom names steps 0 v))) ≡ true
+        → foundHasRoom (foundBy (orElse BadValue x λ d. orElse BadPath (pathOf p) λ steps. reached (findFrom names steps 0 v))) ≡ true
     inner h names none e = refl
     inner h names (some d) e = path-fits v h names (some-there (meaningOf mostLevels names v) e) (pathOf p)
 
     go : (b : Bool) → documentFits m v && leb (length p) mostPath ≡ b → (x : Option Dictionary)
-        → foundFits (foundBy (unless TooLong b (orElse BadMetadata x λ names. orElse BadValue (meaningOf mostLevels names v) λ d. orElse BadPath (pathOf p) λ steps. reached (findFrom names steps 0 v)))) ≡ true
+        → foundHasRoom (foundBy (unless TooLong b (orElse BadMetadata x λ names. orElse BadValue (meaningOf mostLevels names v) λ d. orElse BadPath (pathOf p) λ steps. reached (findFrom names steps 0 v)))) ≡ true
     go false e x = refl
     go true e none = refl
     go true e (some names) = inner (short e) names (meaningOf mostLevels names v) refl
