@@ -3,6 +3,7 @@ ghost use mathlib.Core.Path.{_≡_};
 ghost use mathlib.Core.Bool.{true};
 ghost use Prim.Native.Nat.{_*_, _≤_, max};
 ghost use lib.ListN.{length};
+ghost use Rattle.paper.specs.Bounds.{mostWalked};
 ghost use Rattle.paper.specs.Normal.{largest, numbersBytes};
 ghost use Rattle.paper.specs.Words.{numbers, allBelow};
 ghost use Rattle.writing.specs.Ends.{EndsAt};
@@ -19,7 +20,7 @@ fn larger(a: usize, b: usize) -> usize
 
 // The largest of the normal ids of the ids that stand one after another, so many; 0 of none.
 pub fn largest_of(ranks: &[u16], ids: &[u8], id: usize, count: usize) -> usize
-    requires { ⌜ (count * id ≤ length (now ids)) × (1 ≤ id) × (id ≤ 4) × (count ≤ 65536) × (allBelow (length (now ranks)) (numbers id count (now ids)) ≡ true) ⌝ }
+    requires { ⌜ (count * id ≤ length (now ids)) × (1 ≤ id) × (id ≤ 4) × (count ≤ mostWalked) × (allBelow (length (now ranks)) (numbers id count (now ids)) ≡ true) ⌝ }
     ensures { λ r. ⌜ r ≡ largest (ranksAt (now (ranks .entry)) (numbers id count (now (ids .entry)))) ⌝ }
 {
     let mut most = 0;
@@ -46,7 +47,7 @@ pub fn write_ids(
     out: &mut [u8],
     end: usize,
 ) -> usize
-    requires { ⌜ (count * id ≤ length (now ids)) × (1 ≤ id) × (id ≤ 4) × (count ≤ 65536) × (allBelow (length (now ranks)) (numbers id count (now ids)) ≡ true) × (1 ≤ width) × (width ≤ 4) × (count * width ≤ end) × (end ≤ length (now out)) ⌝ }
+    requires { ⌜ (count * id ≤ length (now ids)) × (1 ≤ id) × (id ≤ 4) × (count ≤ mostWalked) × (allBelow (length (now ranks)) (numbers id count (now ids)) ≡ true) × (1 ≤ width) × (width ≤ 4) × (count * width ≤ end) × (end ≤ length (now out)) ⌝ }
     ensures { λ r. ⌜ EndsAt (numbersBytes width (ranksAt (now (ranks .entry)) (numbers id count (now (ids .entry))))) (now (out .entry)) (now (out .exit)) end r ⌝ }
 {
     let start = end - count * width;
