@@ -1,0 +1,148 @@
+-- Framed pieces one after another: behind a frame that fits lie the pieces behind its end.
+use mathlib.Core.Bool.{Bool, true, false, _&&_}
+use mathlib.Core.List.{List, [], _∷_}
+use mathlib.Core.Option.{Option, none, some, Option·some-injective as some-injective}
+use mathlib.Core.Path.{_≡_, refl, sym, ap, _∙_}
+use Prim.Native.Nat.{ℕ, zero, suc, _+_, _-_, _≤_, _<_}
+use native.Mathlib.Omega.{arith}
+use borrow.Author.Tests.{le-leb, lt-leb, leb-true, leb-false}
+use lib.Dec.{leb}
+use lib.ListN.{length, take, drop, length-drop, drop-of-length-le}
+use lib.Seq.{drop-cons, drop-drop}
+use Rattle.frames.specs.Frames.{frameEnd, frameBy, frameAt, pieceIn}
+use Rattle.frames.specs.declared.Frame.the-variants.{Ends, Cut}
+use Rattle.frames.specs.declared.Frame.{Frame}
+use Rattle.numbers.specs.Little.{numberAt}
+use Rattle.paper.specs.Framing.{Piece, piecesWithin, piecesOf}
+use Rattle.paper.specs.Words.{at, part, given, andThen}
+use Rattle.dictionary.proofs.NumbersRunLaws.{number-drop}
+use Rattle.paper.proofs.WordLaws.{never, given-some, and-both}
+
+-- ---- what the code tells
+
+module _ (s : List ℕ) (place : ℕ) where
+  pub cut-short : length s - place < 3 → place < length s → Cut ≡ frameAt s place
+  unfolding frameAt frameBy frameEnd given
+  cut-short h k = rw (lt-leb (place + 3) (length s) (omega arith))
+
+  module _ (three : 3 ≤ length s - place) (size : ℕ) (is : size ≡ numberAt s (place + 1) 2) where
+    pub cut-past : length s - (place + 3) < size → Cut ≡ frameAt s place
+    unfolding frameAt frameBy frameEnd given
+    cut-past h = rw (le-leb (place + 3) (length s) (omega arith), ← is, lt-leb (place + 3 + size) (length s) (omega arith))
+
+    pub ends-there : size ≤ length s - (place + 3) → Ends (place + 3 + size) ≡ frameAt s place
+    unfolding frameAt frameBy frameEnd given
+    ends-there h = rw (le-leb (place + 3) (length s) (omega arith), ← is, le-leb (place + 3 + size) (length s) (omega arith))
+
+-- What an answer says of the frame's end.
+pub frame-cut : (s : List ℕ) (place : ℕ) (r : Frame) → r ≡ frameAt s place → r ≡ Cut → frameEnd s place ≡ none
+unfolding frameAt frameBy
+frame-cut s place r is e = go (frameEnd s place) (sym is ∙ e)
+  where
+    go : (x : Option ℕ) → frameBy x ≡ Cut → x ≡ none
+    go none f = refl
+    go (some end) f = absurd (let z : _≡_ {A = ℕ} 0 1 = cc in omega arith)
+
+pub frame-ends : (s : List ℕ) (place end : ℕ) (r : Frame) → r ≡ frameAt s place → r ≡ Ends end → frameEnd s place ≡ some end
+unfolding frameAt frameBy
+frame-ends s place end r is e = go (frameEnd s place) (sym is ∙ e)
+  where
+    go : (x : Option ℕ) → frameBy x ≡ Ends end → x ≡ some end
+    go none f = absurd (let z : _≡_ {A = ℕ} 0 1 = cc in omega arith)
+    go (some there) f = cc
+
+pub frame-fits : (s : List ℕ) (place end : ℕ) → frameEnd s place ≡ some end → (place + 3 ≤ end) × (end ≤ length s)
+unfolding frameEnd
+frame-fits s place end e =
+    let there : ℕ = place + 3 + numberAt s (place + 1) 2 in
+    let told = given-some (leb (place + 3) (length s) && leb there (length s)) (some there) e in
+    let both = and-both (leb (place + 3) (length s)) (leb there (length s)) (told .0) in
+    let is : there ≡ end = some-injective there end (told .1) in
+    let fits : there ≤ length s = leb-true there (length s) (both .1) in
+    (omega arith, omega arith)
+
+-- ---- the pieces of some bytes
+
+-- As many pieces may be asked for as there are bytes, or more: it is the same.
+pieces-more : (n m : ℕ) (s : List ℕ) → length s ≤ n → length s ≤ m → piecesWithin n s ≡ piecesWithin m s
+unfolding piecesWithin
+pieces-more zero zero s h k = refl
+pieces-more zero (suc m) [] h k = refl
+pieces-more zero (suc m) (tag ∷ rest) h k = absurd (omega arith)
+pieces-more (suc n) zero [] h k = refl
+pieces-more (suc n) zero (tag ∷ rest) h k = absurd (omega arith)
+pieces-more (suc n) (suc m) [] h k = refl
+pieces-more (suc n) (suc m) (tag ∷ rest) h k =
+    let size : ℕ = numberAt rest 0 2 in
+    ap
+    (λ (x : Option (List Piece)). given (leb 2 (length rest) && leb (2 + size) (length rest))
+    (andThen x λ more. some (record { tag = tag; body = part rest 2 (2 + size) } ∷ more)))
+    (pieces-more n m (drop (2 + size) rest) (rw length-drop (omega arith)) (rw length-drop (omega arith)))
+
+pieces-cons : (tag : ℕ) (rest : List ℕ)
+    → piecesOf (tag ∷ rest)
+    ≡ given (leb 2 (length rest) && leb (2 + numberAt rest 0 2) (length rest))
+    (andThen (piecesOf (drop (2 + numberAt rest 0 2) rest)) λ more. some (record { tag = tag; body = part rest 2 (2 + numberAt rest 0 2) } ∷ more))
+unfolding piecesOf piecesWithin
+pieces-cons tag rest =
+    let size : ℕ = numberAt rest 0 2 in
+    ap
+    (λ (x : Option (List Piece)). given (leb 2 (length rest) && leb (2 + size) (length rest))
+    (andThen x λ more. some (record { tag = tag; body = part rest 2 (2 + size) } ∷ more)))
+    (pieces-more (length rest) (length (drop (2 + size) rest)) (drop (2 + size) rest) (rw length-drop (omega arith)) (omega arith))
+
+-- The pieces from a place on: the frame's, and those behind its end.
+unfoldable pub piecesBy : List ℕ → (place : ℕ) → Option ℕ → Option (List Piece)
+piecesBy s place none = none
+piecesBy s place (some end) = andThen (piecesOf (drop end s)) λ more. some (pieceIn s place end ∷ more)
+
+module _ (s : List ℕ) (place : ℕ) (h : place < length s) where
+  left : length (drop (suc place) s) + suc place ≡ length s
+  left = rw length-drop (omega arith)
+
+  size-same : numberAt (drop (suc place) s) 0 2 ≡ numberAt s (place + 1) 2
+  size-same = number-drop s (suc place) 0 2 ∙ ap (λ (p : ℕ). numberAt s p 2) (let e : suc place + 0 ≡ place + 1 = omega arith in e)
+
+  pub pieces-at : piecesOf (drop place s) ≡ piecesBy s place (frameEnd s place)
+  unfolding frameEnd piecesBy given
+  pieces-at =
+      ap piecesOf (drop-cons s place 0 h) ∙ pieces-cons (at s place) (drop (suc place) s)
+      ∙ go (numberAt (drop (suc place) s) 0 2) size-same (leb 2 (length (drop (suc place) s))) refl
+    where
+      end : (n : ℕ) → andThen (piecesOf (drop (2 + n) (drop (suc place) s))) (λ more. some (record { tag = at s place; body = part (drop (suc place) s) 2 (2 + n) } ∷ more))
+          ≡ andThen (piecesOf (drop (place + 3 + n) s)) λ more. some (pieceIn s place (place + 3 + n) ∷ more)
+      end n =
+          let a : 2 + n - 2 ≡ place + 3 + n - (place + 3) = omega arith in
+          let b : suc place + 2 ≡ place + 3 = omega arith in
+          let d : suc place + (2 + n) ≡ place + 3 + n = omega arith in
+          rw (drop-drop, drop-drop, a, b, d)
+
+      go : (n : ℕ) → n ≡ numberAt s (place + 1) 2 → (two : Bool) → leb 2 (length (drop (suc place) s)) ≡ two
+          → given (two && leb (2 + n) (length (drop (suc place) s)))
+          (andThen (piecesOf (drop (2 + n) (drop (suc place) s))) λ more. some (record { tag = at s place; body = part (drop (suc place) s) 2 (2 + n) } ∷ more))
+          ≡ piecesBy s place (given (leb (place + 3) (length s) && leb (place + 3 + numberAt s (place + 1) 2) (length s)) (some (place + 3 + numberAt s (place + 1) 2)))
+      go n e false f =
+          let few = leb-false 2 (length (drop (suc place) s)) f in
+          let all = left in
+          rw (lt-leb (place + 3) (length s) (omega arith))
+      go n e true f =
+          let two = leb-true 2 (length (drop (suc place) s)) f in
+          let all = left in
+          rw (le-leb (place + 3) (length s) (omega arith), ← e) (within n (leb (2 + n) (length (drop (suc place) s))) refl)
+        where
+          within : (n : ℕ) (b : Bool) → leb (2 + n) (length (drop (suc place) s)) ≡ b
+              → given b (andThen (piecesOf (drop (2 + n) (drop (suc place) s))) λ more. some (record { tag = at s place; body = part (drop (suc place) s) 2 (2 + n) } ∷ more))
+              ≡ piecesBy s place (given (leb (place + 3 + n) (length s)) (some (place + 3 + n)))
+          within n false g =
+              let past = leb-false (2 + n) (length (drop (suc place) s)) g in
+              let all = left in
+              rw (lt-leb (place + 3 + n) (length s) (omega arith))
+          within n true g =
+              let fits = leb-true (2 + n) (length (drop (suc place) s)) g in
+              let all = left in
+              rw (le-leb (place + 3 + n) (length s) (omega arith)) (end n)
+
+-- Behind the last byte there is no piece.
+pub pieces-ended : (s : List ℕ) (place : ℕ) → length s ≤ place → piecesOf (drop place s) ≡ some []
+unfolding piecesOf piecesWithin
+pieces-ended s place h = rw (drop-of-length-le s h)

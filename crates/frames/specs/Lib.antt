@@ -1,0 +1,2 @@
+-- Frames at a place of some bytes.
+pub mod Frames
