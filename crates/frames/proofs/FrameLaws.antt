@@ -14,9 +14,9 @@ use Rattle.frames.specs.declared.Frame.the-variants.{Ends, Cut}
 use Rattle.frames.specs.declared.Frame.{Frame}
 use Rattle.numbers.specs.Little.{numberAt}
 use Rattle.paper.specs.Framing.{Piece, piecesWithin, piecesOf}
-use Rattle.paper.specs.Words.{at, part, given, andThen}
+use Rattle.paper.specs.Words.{at, part, given, andThen, isThere}
 use Rattle.dictionary.proofs.NumbersRunLaws.{number-drop}
-use Rattle.paper.proofs.WordLaws.{never, given-some, and-both}
+use Rattle.paper.proofs.WordLaws.{never, given-some, then-some, some-there, and-both}
 
 -- ---- what the code tells
 
@@ -146,3 +146,45 @@ module _ (s : List ℕ) (place : ℕ) (h : place < length s) where
 pub pieces-ended : (s : List ℕ) (place : ℕ) → length s ≤ place → piecesOf (drop place s) ≡ some []
 unfolding piecesOf piecesWithin
 pieces-ended s place h = rw (drop-of-length-le s h)
+
+-- ---- backwards: from the pieces to the frames
+
+pub record FirstIs (s : List ℕ) (place : ℕ) (first : Piece) (rest : List Piece) : Type 0 where
+  pub end : ℕ
+  pub ends : frameEnd s place ≡ some end
+  pub is : first ≡ pieceIn s place end
+  pub behind : piecesOf (drop end s) ≡ some rest
+
+-- Where there is no piece, no byte is left.
+pub pieces-end-is : (s : List ℕ) (place : ℕ) → piecesOf (drop place s) ≡ some [] → length s ≤ place
+unfolding piecesBy isThere
+pieces-end-is s place e = go (leb (length s) place) refl
+  where
+    cons-nil : {y : Piece} {ys : List Piece} → _≡_ {A = Option (List Piece)} (some (y ∷ ys)) (some []) → ⊥
+    cons-nil g = let z : _≡_ {A = ℕ} 0 1 = cc in omega arith
+
+    some-left : (x : Option ℕ) → piecesBy s place x ≡ some [] → ⊥
+    some-left none f = never (sym (some-there none f))
+    some-left (some end) f = cons-nil (then-some (piecesOf (drop end s)) _ f .2)
+
+    go : (b : Bool) → leb (length s) place ≡ b → length s ≤ place
+    go true f = leb-true (length s) place f
+    go false f = absurd (some-left (frameEnd s place) (sym (pieces-at s place (leb-false (length s) place f)) ∙ e))
+
+-- The first piece is that of the frame at the place, and the others lie behind its end.
+pub pieces-first-is : (s : List ℕ) (place : ℕ) (first : Piece) (rest : List Piece) → piecesOf (drop place s) ≡ some (first ∷ rest) → FirstIs s place first rest
+unfolding piecesBy isThere
+pieces-first-is s place first rest e = go (leb (length s) place) refl
+  where
+    nil-cons : _≡_ {A = Option (List Piece)} (some []) (some (first ∷ rest)) → ⊥
+    nil-cons g = let z : _≡_ {A = ℕ} 0 1 = cc in omega arith
+
+    there : (x : Option ℕ) → frameEnd s place ≡ x → piecesBy s place x ≡ some (first ∷ rest) → FirstIs s place first rest
+    there none f g = never (sym (some-there none g))
+    there (some end) f g =
+        let told = then-some (piecesOf (drop end s)) _ g in
+        record { end = end; ends = f; is = (let same = told .2 in cc); behind = told .1 ∙ (let same = told .2 in cc) }
+
+    go : (b : Bool) → leb (length s) place ≡ b → FirstIs s place first rest
+    go true f = absurd (nil-cons (sym (pieces-ended s place (leb-true (length s) place f)) ∙ e))
+    go false f = there (frameEnd s place) refl (sym (pieces-at s place (leb-false (length s) place f)) ∙ e)

@@ -1,0 +1,4 @@
+-- Laws of rows judged.
+pub mod VerdictLaws
+pub mod PartLaws
+pub mod PlaceLaws

@@ -1,0 +1,3 @@
+-- What a row comes to under its schema, place by place.
+pub mod Verdicts
+pub mod Parts
