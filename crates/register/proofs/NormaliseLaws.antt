@@ -1,9 +1,9 @@
 -- Normalise: a lawful document comes to what is written of it, another is refused and leaves both buffers as they were;
 -- and the lengths have room in a word.
 use mathlib.Core.Bool.{Bool, true, false, cond, _&&_}
-use mathlib.Core.List.{List, []}
+use mathlib.Core.List.{List}
 use mathlib.Core.Option.{some}
-use mathlib.Core.Path.{_≡_, refl, sym, ap, subst, _∙_}
+use mathlib.Core.Path.{_≡_, refl, sym, ap, _∙_}
 use Prim.Native.Nat.{ℕ, _^_, _≤_, _<_}
 use native.Mathlib.Omega.{arith}
 use borrow.Author.Tests.{lt-ltb}
@@ -14,7 +14,6 @@ use Rattle.documents.specs.Judged.{documentOf}
 use Rattle.documents.specs.declared.Document.the-variants.{Lawful, Refused}
 use Rattle.documents.specs.declared.Document.{Document}
 use Rattle.normalise.specs.Answered.{Answered, Lent}
-use Rattle.numbers.specs.Little.{putAt}
 use Rattle.paper.specs.Limits.{mostLevels, mostMetadata, mostValue}
 use Rattle.paper.specs.Meaning.{Doc}
 use Rattle.paper.specs.Metadata.{namesIn}
