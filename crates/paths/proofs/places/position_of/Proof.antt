@@ -17,8 +17,8 @@ abbrev μ-loop : tie.MeasureT-loop
 loop-holds : tie.Need-loop-holds Inv-loop μ-loop
 loop-holds c = position-start _ _ _ _ _
 
-read-requires : tie.Need-read-requires Inv-loop μ-loop
-read-requires c κs = search (needs, standing-there)
+input-id-at-requires : tie.Need-input-id-at-requires Inv-loop μ-loop
+input-id-at-requires c κs = search (needs, standing-there)
 
 is-name-requires : tie.Need-is-name-requires Inv-loop μ-loop
 is-name-requires c κs = search (needs, id-below, opened-count)
@@ -48,7 +48,7 @@ position-of-spec =
     Inv-loop
     μ-loop
     loop-holds
-    read-requires
+    input-id-at-requires
     is-name-requires
     returns
     add-place
