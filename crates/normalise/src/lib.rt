@@ -113,7 +113,7 @@ fn with_room(
     metadata_out: &mut [u8],
     value_out: &mut [u8],
 ) -> DocumentAnswer
-    requires { ⌜ Readings (now readings) × Numbered (now metadata) names (now value) (now ranks) (now chosen) count × (length (now value) ≤ mostNames) ⌝ }
+    requires { ⌜ Readings (now readings) × Numbered (now metadata) names (now value) (now ranks) (now chosen) count × (length (now value) ≤ mostValue) ⌝ }
     ensures { λ r. ⌜ ((d : Doc) → meaningOf mostLevels (namesIn (now (metadata .entry))) (now (value .entry)) ≡ some d → Answered (written d) (now («metadata_out» .entry)) (now («metadata_out» .exit)) (now («value_out» .entry)) (now («value_out» .exit)) r) ⌝ }
 {
     if stands(value) {
