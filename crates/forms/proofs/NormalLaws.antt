@@ -196,9 +196,9 @@ same-meaning metadata value metadata′ value′ bytes bytes′ n n′ e e′ d 
 pub accepted-written : (metadata value : List ℕ) (d : Doc) → checkOutcome metadata value ≡ reached d → normaliseOutcome metadata value ≡ written d
 unfolding checkOutcome normaliseOutcome judged valueJudged require obtain
 accepted-written metadata value d e =
-    let first = unless-reached _ (documentFits metadata value) _ e in
-    let second = or-else-reached _ (dictionaryOf metadata) _ (first .1) in
-    let third = or-else-reached _ (meaningOf mostLevels (second .0) value) _ (second .2) in
+    let first = require-reached _ (documentFits metadata value) _ e in
+    let second = obtain-reached _ (dictionaryOf metadata) _ (first .1) in
+    let third = obtain-reached _ (meaningOf mostLevels (second .0) value) _ (second .2) in
     rw (first .0, second .1, third .1) (ap written (same-reached (third .2)))
 
 -- So documents that mean the same have the same outcome, refusal 8 too.
