@@ -1,15 +1,17 @@
 -- The answers of the reader of one cell: one law for each, with the tests that led there.
 use mathlib.Core.Bool.{Bool, true, false, not, cond}
 use mathlib.Core.List.{List}
-use mathlib.Core.Option.{none, some}
+use mathlib.Core.Option.{Option, none, some}
 use mathlib.Core.Path.{_≡_, refl, sym, ap, _∙_}
 use Prim.Native.Nat.{ℕ, _≤_, _<_}
 use native.Mathlib.Omega.{arith}
-use borrow.Author.Tests.{eq-eqb, ne-eqb, le-leb, lt-leb, not-true, not-false}
-use lib.Dec.{eqb}
+use borrow.Author.Tests.{eq-eqb, ne-eqb, eqb-true, eqb-false, le-leb, lt-leb, not-true, not-false}
+use lib.Dec.{leb, eqb}
 use lib.Ieee.{ofBits, nanBits, binary32, binary64}
 use lib.ListN.{length, getD, take, drop, length-drop}
 use lib.Seq.{take-all}
+use Rattle.cells.specs.Sized.{NumberSized}
+use Rattle.cells.proofs.CodeLaws.{number-sized}
 use Rattle.numbers.specs.Little.{number, numberAt}
 use Rattle.signed.specs.Signed.{signedOf}
 use Rattle.paper.specs.Cells.{bodyKind, cellBy, cellMeaning, numberCell, handedOut}
@@ -17,16 +19,102 @@ use Rattle.paper.specs.FirstBytes.{payloadSizes}
 use Rattle.paper.specs.Limits.{mostCell}
 use Rattle.paper.specs.Meaning.{Scalar, boolean, payload, text, textMeaning}
 use Rattle.paper.specs.Operations.{cellOutcome, cellReadBy, cellAnswer}
-use Rattle.paper.specs.Refusals.{require, obtain}
+use Rattle.paper.specs.Refusals.{reached, require, obtain}
 use Rattle.paper.specs.Schemas.{columnCode, columnOf}
-use Rattle.paper.specs.Words.{at, given}
+use Rattle.paper.specs.Words.{at, given, isThere}
 use Rattle.paper.specs.declared.Cell.the-variants.{Boolean, Integer, Float, Double, FloatNan, DoubleNan, Length, Uuid}
 use Rattle.paper.specs.declared.Cell.{Cell}
 use Rattle.paper.specs.declared.CellAnswer.the-variants.{Read, Refused}
 use Rattle.paper.specs.declared.CellAnswer.{CellAnswer}
 use Rattle.paper.specs.declared.Refusal.the-variants.{TooLong, BadSchema, BadRow}
+use Rattle.paper.proofs.WordLaws.{never, some-there}
+
+-- ---- which bytes are good
+
+abbrev Means : (code : ℕ) → List ℕ → Option Scalar
+Means code s = cellMeaning (record { code = code }) s
+
+module _ (code : ℕ) (s : List ℕ) where
+  pub yes-no-size : code ≡ 1 → (length s ≡ 1 → ⊥) → false ≡ isThere (Means code s)
+  unfolding cellMeaning bodyKind cellBy given isThere
+  yes-no-size e n = rw (e, ne-eqb (length s) 1 n)
+
+  pub yes-no-content : code ≡ 1 → length s ≡ 1 → leb (at s 0) 1 ≡ isThere (Means code s)
+  unfolding cellMeaning bodyKind cellBy given isThere
+  yes-no-content e size = rw (e, eq-eqb (length s) 1 size) (go (leb (at s 0) 1))
+    where
+      go : (b : Bool) → b ≡ isThere (given b (some (boolean (eqb (at s 0) 1))))
+      go true = refl
+      go false = refl
+
+  pub binary-good : code ≡ 15 → true ≡ isThere (Means code s)
+  unfolding cellMeaning bodyKind cellBy isThere
+  binary-good e = rw e
+
+  pub string-good : code ≡ 16 → true ≡ isThere (Means code s)
+  unfolding cellMeaning bodyKind cellBy textMeaning isThere
+  string-good e = rw e
+
+  module _ (one : code ≡ 1 → ⊥) (binary : code ≡ 15 → ⊥) (string : code ≡ 16 → ⊥) where
+    sized-means : Means code s ≡ given (eqb (length s) (getD payloadSizes code 0)) (some (payload code s))
+    unfolding cellMeaning bodyKind cellBy
+    sized-means = rw (ne-eqb code 1 one, ne-eqb code 15 binary, ne-eqb code 16 string)
+
+    pub sized-good : (size : ℕ) → size ≡ getD payloadSizes code 0 → eqb (length s) size ≡ isThere (Means code s)
+    unfolding given isThere
+    sized-good size is = rw (sized-means, ← is) (go (eqb (length s) size))
+      where
+        go : (b : Bool) → b ≡ isThere (given b (some (payload code s)))
+        go true = refl
+        go false = refl
+
+    pub sized-there : isThere (Means code s) ≡ true → length s ≡ getD payloadSizes code 0
+    sized-there there = eqb-true (length s) (getD payloadSizes code 0) (sized-good (getD payloadSizes code 0) refl ∙ there)
+
+-- ---- what good bytes are handed out as
+
+abbrev Handed : (code : ℕ) → List ℕ → CellAnswer
+Handed code s = cellReadBy (obtain (Means code s) BadRow λ value. reached (handedOut value))
+
+module _ (code : ℕ) (s : List ℕ) (there : isThere (Means code s) ≡ true) where
+  yes-no-there : code ≡ 1 → length s ≡ 1
+  yes-no-there e = go (eqb (length s) 1) refl
+    where
+      go : (b : Bool) → eqb (length s) 1 ≡ b → length s ≡ 1
+      go true f = eqb-true (length s) 1 f
+      go false f = never (sym (yes-no-size code s e (eqb-false (length s) 1 f) ∙ there))
+
+  pub yes-no-some : code ≡ 1 → 0 < length s
+  yes-no-some e = let size = yes-no-there e in omega arith
+
+  pub yes-no-read : code ≡ 1 → Read (Boolean (eqb (at s 0) 1)) ≡ Handed code s
+  unfolding cellMeaning bodyKind cellBy given cellReadBy obtain handedOut
+  yes-no-read e =
+      let size = yes-no-there e in
+      let known : leb (at s 0) 1 ≡ true = yes-no-content code s e size ∙ there in
+      rw (e, eq-eqb (length s) 1 size, known)
+
+  pub binary-read : code ≡ 15 → Read (Length (length s)) ≡ Handed code s
+  unfolding cellMeaning bodyKind cellBy cellReadBy obtain handedOut
+  binary-read e = rw e
+
+  pub string-read : code ≡ 16 → Read (Length (length s)) ≡ Handed code s
+  unfolding cellMeaning bodyKind cellBy textMeaning cellReadBy obtain handedOut
+  string-read e = rw e
+
+  pub number-asked : columnCode code ≡ true → (code ≡ 1 → ⊥) → (code ≡ 15 → ⊥) → (code ≡ 16 → ⊥) → NumberSized code (length s)
+  number-asked known one binary string = number-sized code (length s) known one binary string (sized-there code s one binary string there)
+
+  pub number-read : (code ≡ 1 → ⊥) → (code ≡ 15 → ⊥) → (code ≡ 16 → ⊥) → {r : Cell} → r ≡ numberCell code s → Read r ≡ Handed code s
+  unfolding given cellReadBy obtain handedOut
+  number-read one binary string {r} is =
+      let size = sized-there code s one binary string there in
+      rw (sized-means code s one binary string, eq-eqb (length s) (getD payloadSizes code 0) size, ne-eqb code 15 binary) (ap Read is)
 
 -- ---- in the order of the refusals
+
+pub there-good : (code : ℕ) (s : List ℕ) (b : Bool) → b ≡ isThere (Means code s) → not b ≡ false → isThere (Means code s) ≡ true
+there-good code s b is e = sym is ∙ not-false b e
 
 module _ (code : ℕ) (s : List ℕ) where
   pub too-long : mostCell < length s → Refused TooLong ≡ cellAnswer code s
@@ -39,64 +127,22 @@ module _ (code : ℕ) (s : List ℕ) where
     no-code e = rw (le-leb (length s) mostCell fits, ← is-known, not-true known e)
 
     module _ (right : not known ≡ false) where
-      no-meaning : cellMeaning (record { code = code }) s ≡ none → Refused BadRow ≡ cellAnswer code s
-      unfolding cellAnswer cellReadBy cellOutcome require obtain columnOf given
-      no-meaning e = rw (le-leb (length s) mostCell fits, ← is-known, not-false known right, e)
+      pub known-code : columnCode code ≡ true
+      known-code = sym is-known ∙ not-false known right
 
-      meaning : {value : Scalar} → cellMeaning (record { code = code }) s ≡ some value → Read (handedOut value) ≡ cellAnswer code s
-      unfolding cellAnswer cellReadBy cellOutcome require obtain columnOf given
-      meaning e = rw (le-leb (length s) mostCell fits, ← is-known, not-false known right, e)
+      judged-answer : Handed code s ≡ cellAnswer code s
+      unfolding cellAnswer cellOutcome require obtain columnOf given
+      judged-answer = rw (le-leb (length s) mostCell fits, ← is-known, not-false known right)
 
-      -- ---- binary, string, and the others by their size
+      pub no-meaning : (b : Bool) → b ≡ isThere (Means code s) → not b ≡ true → Refused BadRow ≡ cellAnswer code s
+      no-meaning b is e = go (Means code s) refl ∙ judged-answer
+        where
+          go : (x : Option Scalar) → Means code s ≡ x → Refused BadRow ≡ cellReadBy (obtain x BadRow λ value. reached (handedOut value))
+          go none f = unfold cellReadBy in unfold obtain in refl
+          go (some value) f = never (sym (some-there (Means code s) f) ∙ sym is ∙ not-true b e)
 
-      pub binary-read : code ≡ 15 → Read (Length (length s)) ≡ cellAnswer code s
-      unfolding handedOut cellMeaning bodyKind cellBy
-      binary-read e =
-          let means : cellMeaning (record { code = code }) s ≡ some (payload 15 s) = rw e in
-          meaning means
-
-      pub string-read : code ≡ 16 → Read (Length (length s)) ≡ cellAnswer code s
-      unfolding handedOut cellMeaning bodyKind cellBy textMeaning
-      string-read e =
-          let means : cellMeaning (record { code = code }) s ≡ some (text s) = rw e in
-          meaning means
-
-      module _ (one : code ≡ 1 → ⊥) (binary : code ≡ 15 → ⊥) (string : code ≡ 16 → ⊥) (size : ℕ) (is-size : size ≡ getD payloadSizes code 0) where
-        pub wrong-size : (length s ≡ size → ⊥) → Refused BadRow ≡ cellAnswer code s
-        unfolding cellMeaning bodyKind cellBy given
-        wrong-size n =
-            let means : cellMeaning (record { code = code }) s ≡ none =
-            rw (ne-eqb code 1 one, ne-eqb code 15 binary, ne-eqb code 16 string, ← is-size, ne-eqb (length s) size n) in
-            no-meaning means
-
-        pub number-read : {r : Cell} → length s ≡ size → r ≡ numberCell code s → Read r ≡ cellAnswer code s
-        unfolding handedOut cellMeaning bodyKind cellBy given
-        number-read {r} e is =
-            let means : cellMeaning (record { code = code }) s ≡ some (payload code s) =
-            rw (ne-eqb code 1 one, ne-eqb code 15 binary, ne-eqb code 16 string, ← is-size, eq-eqb (length s) size e) in
-            let handed : handedOut (payload code s) ≡ numberCell code s = rw (ne-eqb code 15 binary) in
-            ap Read (is ∙ sym handed) ∙ meaning means
-
--- ---- a boolean
-
-module _ (s : List ℕ) (fits : length s ≤ mostCell) where
-  pub yes-no-size : (length s ≡ 1 → ⊥) → Refused BadRow ≡ cellAnswer 1 s
-  unfolding columnCode cellMeaning bodyKind cellBy given
-  yes-no-size n =
-      let means : cellMeaning (record { code = 1 }) s ≡ none = rw (ne-eqb (length s) 1 n) in
-      no-meaning 1 s fits refl refl means
-
-  pub yes-no-content : length s ≡ 1 → 1 < at s 0 → Refused BadRow ≡ cellAnswer 1 s
-  unfolding columnCode cellMeaning bodyKind cellBy given
-  yes-no-content e h =
-      let means : cellMeaning (record { code = 1 }) s ≡ none = rw (eq-eqb (length s) 1 e, lt-leb (at s 0) 1 h) in
-      no-meaning 1 s fits refl refl means
-
-  pub yes-no-read : length s ≡ 1 → at s 0 ≤ 1 → Read (Boolean (eqb (at s 0) 1)) ≡ cellAnswer 1 s
-  unfolding columnCode cellMeaning bodyKind cellBy given handedOut
-  yes-no-read e h =
-      let means : cellMeaning (record { code = 1 }) s ≡ some (boolean (eqb (at s 0) 1)) = rw (eq-eqb (length s) 1 e, le-leb (at s 0) 1 h) in
-      meaning 1 s fits refl refl means
+      pub meaning : {r : Cell} → Read r ≡ Handed code s → Read r ≡ cellAnswer code s
+      meaning e = e ∙ judged-answer
 
 -- ---- numbers
 
@@ -127,8 +173,3 @@ module _ (code : ℕ) (s : List ℕ) where
       → Integer (signedOf (length s) (numberAt s 0 (length s))) ≡ numberCell code s
   unfolding numberCell
   integer-read d f u = rw (ne-eqb code 7 d, ne-eqb code 14 f, ne-eqb code 20 u, number-all s (length s) refl)
-
--- ---- no second answer
-
-pub one-answer : (code : ℕ) (s : List ℕ) (r other : CellAnswer) → r ≡ cellAnswer code s → other ≡ cellAnswer code s → r ≡ other
-one-answer code s r other is also = is ∙ sym also

@@ -3,7 +3,7 @@ use mathlib.Core.Bool.{Bool, true, false, not, cond, _&&_, _||_}
 use mathlib.Core.Path.{_≡_, refl, sym, _∙_}
 use Prim.Native.Nat.{ℕ, _≤_, _<_}
 use native.Mathlib.Omega.{arith}
-use borrow.Author.Tests.{eqb-true, leb-true, leb-false, ne-eqb, le-leb, lt-leb, not-false}
+use borrow.Author.Tests.{eqb-true, leb-true, leb-false, ne-eqb, le-leb, lt-leb}
 use lib.Dec.{eqb, leb}
 use lib.ListN.{getD}
 use Rattle.cells.specs.Sized.{NumberSized}
@@ -41,14 +41,14 @@ module _ (code : ℕ) where
     code-above h =
         rw (ne-eqb code 1 not-one, le-leb 3 code (omega arith), lt-leb code 7 (omega arith), le-leb 11 code (omega arith), lt-leb code 20 h)
 
-pub code-most : (code : ℕ) {known : Bool} → known ≡ columnCode code → not known ≡ false → code < 21
-code-most code is-known right-code = go (leb code 20) refl
+pub code-most : (code : ℕ) → columnCode code ≡ true → code < 21
+code-most code known = go (leb code 20) refl
   where
     go : (small : Bool) → leb code 20 ≡ small → code < 21
     go true e = let h = leb-true code 20 e in omega arith
     go false e =
         let h = leb-false code 20 e in
-        never (sym (not-false _ right-code) ∙ is-known ∙ sym (code-above code (λ z. omega arith) (omega arith)))
+        never (sym known ∙ sym (code-above code (λ z. omega arith) (omega arith)))
 
 -- ---- the sizes of numbers, by one test over the table of payload sizes
 
@@ -90,10 +90,9 @@ number-fits code size passed =
       integer = λ d f u. some-width size (rw (ne-eqb code 7 d, ne-eqb code 14 f, ne-eqb code 20 u) at passed);
     }
 
-pub number-sized : {code size due : ℕ} {known : Bool} → known ≡ columnCode code → not known ≡ false → (code ≡ 1 → ⊥)
-    → (code ≡ 15 → ⊥) → (code ≡ 16 → ⊥) → size ≡ due → due ≡ getD payloadSizes code 0 → NumberSized code size
+pub number-sized : (code size : ℕ) → columnCode code ≡ true → (code ≡ 1 → ⊥) → (code ≡ 15 → ⊥) → (code ≡ 16 → ⊥)
+    → size ≡ getD payloadSizes code 0 → NumberSized code size
 unfolding right
-number-sized {code} {size} {due} {known} is-known right-code one binary string is is-due =
-    let passed : right code (getD payloadSizes code 0) ≡ true = right-entry code (code-most code is-known right-code) in
-    number-fits code size
-    (rw (← is-due, ← is, ← is-known, not-false known right-code, ne-eqb code 1 one, ne-eqb code 15 binary, ne-eqb code 16 string) at passed)
+number-sized code size known one binary string is =
+    let passed : right code (getD payloadSizes code 0) ≡ true = right-entry code (code-most code known) in
+    number-fits code size (rw (← is, known, ne-eqb code 1 one, ne-eqb code 15 binary, ne-eqb code 16 string) at passed)

@@ -1,13 +1,13 @@
 // The reader of one typed cell: given a type code and its bytes, it is handed out by kind.
-ghost use mathlib.Core.Bool.{cond};
+ghost use mathlib.Core.Bool.{true, cond};
 ghost use mathlib.Core.Path.{_≡_};
-ghost use Prim.Native.Nat.{_≤_};
 ghost use lib.Ieee.{ofBits, nanBits, binary32, binary64};
 ghost use lib.ListN.{length};
-ghost use Rattle.paper.specs.Limits.{mostCell};
 ghost use Rattle.paper.specs.Schemas.{columnCode};
-ghost use Rattle.paper.specs.Cells.{numberCell};
-ghost use Rattle.paper.specs.Operations.{cellAnswer};
+ghost use Rattle.paper.specs.Cells.{numberCell, cellMeaning, handedOut};
+ghost use Rattle.paper.specs.Operations.{cellReadBy, cellAnswer};
+ghost use Rattle.paper.specs.Refusals.{obtain, reached};
+ghost use Rattle.paper.specs.Words.{isThere};
 ghost use Rattle.cells.specs.Sized.{NumberSized};
 use paper::Cell;
 use paper::CellAnswer;
@@ -75,18 +75,42 @@ fn number_cell(code: usize, bytes: &[u8]) -> Cell
     Cell::Integer(signed::read_signed(bytes, 0, bytes.len()))
 }
 
-// A cell of a boolean: `00` false or `01` true.
-fn yes_no(bytes: &[u8]) -> CellAnswer
-    requires { ⌜ length (now bytes) ≤ mostCell ⌝ }
-    ensures { λ r. ⌜ r ≡ cellAnswer 1 (now (bytes .entry)) ⌝ }
+// A cell's bytes have the right size and content for their column: a boolean is `00` or `01`, a string or binary any bytes, the
+// others have the size of their type.
+pub fn good(code: u8, bytes: &[u8]) -> bool
+    requires { ⌜ columnCode code ≡ true ⌝ }
+    ensures { λ r. ⌜ r ≡ isThere (cellMeaning (record { code = code }) (now (bytes .entry))) ⌝ }
 {
-    if bytes.len() != 1 {
-        return CellAnswer::Refused(Refusal::BadRow);
+    if code == 1 {
+        if bytes.len() != 1 {
+            return false;
+        }
+        return bytes[0] <= 1;
     }
-    if 1 < bytes[0] {
-        return CellAnswer::Refused(Refusal::BadRow);
+    if code == 15 {
+        return true;
     }
-    CellAnswer::Read(Cell::Boolean(bytes[0] == 1))
+    if code == 16 {
+        return true;
+    }
+    bytes.len() == heads::payload_size(code as usize)
+}
+
+// What good bytes are handed out as, by kind.
+fn handed(code: u8, bytes: &[u8]) -> Cell
+    requires { ⌜ (columnCode code ≡ true) × (isThere (cellMeaning (record { code = code }) (now bytes)) ≡ true) ⌝ }
+    ensures { λ r. ⌜ CellAnswer.Read r ≡ cellReadBy (obtain (cellMeaning (record { code = code }) (now (bytes .entry))) Refusal.BadRow λ value. reached (handedOut value)) ⌝ }
+{
+    if code == 1 {
+        return Cell::Boolean(bytes[0] == 1);
+    }
+    if code == 15 {
+        return Cell::Length(bytes.len());
+    }
+    if code == 16 {
+        return Cell::Length(bytes.len());
+    }
+    number_cell(code as usize, bytes)
 }
 
 // One typed cell. It judges in the order of the refusals: too long, no type code of a schema, of the wrong size or content.
@@ -99,17 +123,8 @@ pub fn cell(code: u8, bytes: &[u8]) -> CellAnswer
     if !column_code(code) {
         return CellAnswer::Refused(Refusal::BadSchema);
     }
-    if code == 1 {
-        return yes_no(bytes);
-    }
-    if code == 15 {
-        return CellAnswer::Read(Cell::Length(bytes.len()));
-    }
-    if code == 16 {
-        return CellAnswer::Read(Cell::Length(bytes.len()));
-    }
-    if bytes.len() != heads::payload_size(code as usize) {
+    if !good(code, bytes) {
         return CellAnswer::Refused(Refusal::BadRow);
     }
-    CellAnswer::Read(number_cell(code as usize, bytes))
+    CellAnswer::Read(handed(code, bytes))
 }

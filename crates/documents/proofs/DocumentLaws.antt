@@ -5,7 +5,7 @@ use mathlib.Core.Option.{Option, none, some, Option·some-injective as some-inje
 use mathlib.Core.Path.{_≡_, refl, sym, ap, _∙_, subst}
 use Prim.Native.Nat.{ℕ, _≤_, _<_}
 use native.Mathlib.Omega.{arith}
-use borrow.Author.Tests.{le-leb, lt-leb, ne-eqb, eq-eqb, leb-true}
+use borrow.Author.Tests.{le-leb, lt-leb, leb-true}
 use lib.ListN.{length}
 use Rattle.dictionary.specs.Judging.{judgedOf, Opened}
 use Rattle.dictionary.specs.declared.Judged.the-variants.{Good, Broken}
@@ -13,9 +13,6 @@ use Rattle.dictionary.specs.declared.Judged.{Judged}
 use Rattle.dictionary.specs.declared.Names.{Names}
 use Rattle.documents.specs.Judged.{namesRead, documentBy, documentOf}
 use Rattle.documents.specs.declared.Document.the-variants.{Lawful, Refused}
-use Rattle.heads.specs.Extents.{extentAnswer}
-use Rattle.heads.specs.declared.Extent.the-variants.{Size, Unknown}
-use Rattle.heads.specs.declared.Extent.{Extent}
 use Rattle.documents.specs.declared.Document.{Document}
 use lib.Dec.{leb}
 use Rattle.paper.specs.declared.Refusal.{Refusal}
@@ -23,39 +20,17 @@ use Rattle.paper.specs.Meaning.{Doc}
 use Rattle.paper.specs.Limits.{mostMetadata, mostValue, mostLevels}
 use Rattle.paper.specs.Metadata.{Dictionary, dictionaryOf, namesIn}
 use Rattle.paper.specs.Operations.{judged, documentFits, checkOutcome, valueJudged}
-use Rattle.paper.specs.Refusals.{reached, require, obtain, Outcome, refused}
-use Rattle.paper.specs.Values.{extent, whole, endsAt, meaningOf, meaningBy}
+use Rattle.paper.specs.Refusals.{reached, require, obtain}
+use Rattle.paper.specs.Values.{meaningOf}
 use Rattle.paper.specs.Words.{isThere}
 use Rattle.paper.specs.declared.Refusal.the-variants.{TooLong, BadMetadata, BadValue}
 use Rattle.dictionary.proofs.DictionaryLaws.{opened, opened-names, broken}
-use Rattle.paper.proofs.WordLaws.{never, there-some, given-failed, some-there}
-use Rattle.containers.proofs.LengthLaws.{unknown-none, size-some}
+use Rattle.paper.proofs.WordLaws.{never, there-some, some-there}
 
 not-there : {A : Type 0} (x : Option A) → isThere x ≡ false → x ≡ none
 unfolding isThere
 not-there none e = refl
 not-there (some a) e = never e
-
--- ---- the outermost value fills the input
-
-module _ (names : Dictionary) (s : List ℕ) where
-  not-whole : whole s ≡ false → false ≡ isThere (meaningOf mostLevels names s)
-  unfolding meaningOf isThere
-  not-whole e = sym (ap isThere (given-failed (whole s) (meaningBy (meaningOf 15 names) names _ s) e))
-
-  module _ (r : Extent) (told : r ≡ extentAnswer (extent s)) where
-    pub no-extent : r ≡ Unknown → false ≡ isThere (meaningOf mostLevels names s)
-    unfolding whole endsAt
-    no-extent e = not-whole (rw (unknown-none (extent s) (sym told ∙ e)))
-
-    module _ (size : ℕ) (e : r ≡ Size size) where
-      pub other-extent : (size ≡ length s → ⊥) → false ≡ isThere (meaningOf mostLevels names s)
-      unfolding whole endsAt
-      other-extent other = not-whole (rw (size-some (extent s) size (sym told ∙ e)) (ne-eqb size (length s) other))
-
-pub fills : (s : List ℕ) (r : Extent) → r ≡ extentAnswer (extent s) → (size : ℕ) → r ≡ Size size → size ≡ length s → whole s ≡ true
-unfolding whole endsAt
-fills s r told size e same = rw (size-some (extent s) size (sym told ∙ e)) (eq-eqb size (length s) same)
 
 -- ---- the refusals, in their order
 

@@ -10,7 +10,6 @@ ghost use Rattle.dictionary.specs.Judging.{Opened};
 ghost use Rattle.documents.specs.Judged.{documentOf};
 use dictionary::Judged;
 use dictionary::Names;
-use heads::Extent;
 use paper::Refusal;
 
 // What a lent document is: lawful, with what was read of its metadata, or refused.
@@ -25,13 +24,7 @@ fn lawful_value(metadata: &[u8], names: Names, value: &[u8]) -> bool
     ensures { λ r. ⌜ r ≡ isThere (meaningOf mostLevels (namesIn (now (metadata .entry))) (now (value .entry))) ⌝ }
 {
     let readings = heads::READINGS;
-    let Extent::Size(size) = heads::extent_of(&readings, value) else {
-        return false;
-    };
-    if size != value.len() {
-        return false;
-    }
-    values::value(paper::MOST_LEVELS, &readings, metadata, names, value)
+    values::lawful(paper::MOST_LEVELS, &readings, metadata, names, value)
 }
 
 // Judges a lent document.

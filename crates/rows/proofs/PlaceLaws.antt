@@ -139,3 +139,107 @@ module _ (body : List ℕ) where
       go (some (first ∷ [])) e = told-one first e
       go (some (first ∷ second ∷ [])) e = told-two first second e
       go (some (first ∷ second ∷ third ∷ more)) e = λ left right. unfold andThen in unfold placeParts in rw e
+
+-- ---- what a place comes to
+
+-- A leftover alone, under a node: rule d.
+unfoldable pub leftBroken : Schema → Doc → Bool
+leftBroken node d = (isObject d && isFieldsNode node) || (isArray d && isListNode node)
+
+-- A leftover beside something typed, under a node: rules a, b and c.
+unfoldable pub besideBroken : Schema → Doc → Bool
+besideBroken node d = not (isFieldsNode node) || (not (isObject d) || hasAny (namedBy node) d)
+
+-- What a leftover comes to, by what reads it; what comes of it goes on.
+unfoldable pub withLeft : Option Doc → (Doc → Verdict) → Verdict
+withLeft none next = Unparsed
+withLeft (some d) next = next d
+
+-- ---- the rules, by what a place holds
+
+module _ (node : Schema) (typedLawful : Typed → Bool) where
+  left-lawful : (d : Doc) → placeLawfulBy node typedLawful (leftover d) ≡ not (leftBroken node d)
+  unfolding placeLawfulBy breaksA breaksB breaksC breaksD hasLeftover hasTyped leftoverOf insideLawful leftBroken
+  left-lawful d = go ((isObject d && isFieldsNode node) || (isArray d && isListNode node))
+    where
+      go : (b : Bool) → not b && true ≡ not b
+      go true = refl
+      go false = refl
+
+  typed-lawful : (t : Typed) → placeLawfulBy node typedLawful (typed t) ≡ typedLawful t
+  unfolding placeLawfulBy breaksA breaksB breaksC breaksD hasLeftover hasTyped leftoverOf insideLawful
+  typed-lawful t = refl
+
+  both-lawful : (d : Doc) (t : Typed) → placeLawfulBy node typedLawful (both d t) ≡ not (besideBroken node d) && typedLawful t
+  unfolding placeLawfulBy breaksA breaksB breaksC breaksD hasLeftover hasTyped leftoverOf insideLawful besideBroken
+  both-lawful d t = go (isFieldsNode node) (isObject d) (hasAny (namedBy node) d)
+    where
+      go : (a b c : Bool) → not (not a || (not b || (c || false))) && typedLawful t ≡ not (not a || (not b || c)) && typedLawful t
+      go false b c = refl
+      go true false c = refl
+      go true true true = refl
+      go true true false = refl
+
+module _ (node : Schema) (levels : ℕ) (names : Dictionary) (body : List ℕ) where
+  left : List ℕ → Option Doc
+  left = leftoverMeaning levels names
+
+  right : List ℕ → Option Typed
+  right = typedUnder node levels names
+
+  by-parts : placeVerdict node levels names body ≡ verdictOf (andThen (piecesOf body) (placeParts left right)) (placeLawfulBy node (typedLawful node names))
+  unfolding placeVerdict left right placeWithin placeBy given
+  by-parts = rw (place-under node levels names, place-lawful node names)
+
+  pub place-empty : Told body Empty → placeVerdict node levels names body ≡ Lawful
+  unfolding andThen placeParts verdictOf placeLawfulBy breaksA breaksB breaksC breaksD hasLeftover hasTyped leftoverOf isObject isArray insideLawful
+  place-empty e = by-parts ∙ rw (pieces-ended body 0 (omega arith))
+
+  pub place-unframed : Told body Unframed → placeVerdict node levels names body ≡ Unparsed
+  unfolding verdictOf
+  place-unframed e = by-parts ∙ rw (e left right)
+
+  pub place-left : Told body Leftover
+      → placeVerdict node levels names body ≡ withLeft (leftoverMeaning levels names (part body 3 (length body))) λ d. brokenIf (leftBroken node d) Lawful
+  unfolding andThen placeParts left right verdictOf withLeft
+  place-left told = by-parts ∙ rw (told .pieces, told .tagged) (go (leftoverMeaning levels names (part body 3 (length body))))
+    where
+      kept : (b : Bool) → cond (not b) Lawful Broken ≡ brokenIf b Lawful
+      kept true = unfold brokenIf in refl
+      kept false = unfold brokenIf in refl
+
+      go : (x : Option Doc) → verdictOf (andThen x λ d. some (leftover d)) (placeLawfulBy node (typedLawful node names)) ≡ withLeft x λ d. brokenIf (leftBroken node d) Lawful
+      go none = refl
+      go (some d) = rw (left-lawful node (typedLawful node names) d) (kept (leftBroken node d))
+
+  pub place-typed : Told body TypedPart → placeVerdict node levels names body ≡ typedVerdict node levels names (part body 3 (length body))
+  unfolding andThen placeParts left right verdictOf typedVerdict given
+  place-typed told = by-parts ∙ rw (told .pieces, told .tagged) (go (typedUnder node levels names (part body 3 (length body))))
+    where
+      go : (x : Option Typed) → verdictOf (andThen x λ t. some (typed t)) (placeLawfulBy node (typedLawful node names)) ≡ verdictOf x (typedLawful node names)
+      go none = refl
+      go (some t) = rw (typed-lawful node (typedLawful node names) t)
+
+  pub place-both : (end : ℕ) → Told body (Both end)
+      → placeVerdict node levels names body
+      ≡ withLeft (leftoverMeaning levels names (part body 3 end)) λ d. brokenIf (besideBroken node d) (typedVerdict node levels names (part body (end + 3) (length body)))
+  unfolding andThen placeParts left right verdictOf withLeft typedVerdict given
+  place-both end told =
+      by-parts
+      ∙ rw (told .pieces, told .first-tag, told .second-tag)
+      (go (leftoverMeaning levels names (part body 3 end)) (typedUnder node levels names (part body (end + 3) (length body))))
+    where
+      kept : (b c : Bool) → cond (not b && c) Lawful Broken ≡ brokenIf b (cond c Lawful Broken)
+      kept true true = unfold brokenIf in refl
+      kept true false = unfold brokenIf in refl
+      kept false c = unfold brokenIf in refl
+
+      unread : (b : Bool) → Unparsed ≡ brokenIf b Unparsed
+      unread true = unfold brokenIf in refl
+      unread false = unfold brokenIf in refl
+
+      go : (x : Option Doc) (y : Option Typed) → verdictOf (andThen x λ d. andThen y λ t. some (both d t)) (placeLawfulBy node (typedLawful node names))
+          ≡ withLeft x λ d. brokenIf (besideBroken node d) (verdictOf y (typedLawful node names))
+      go none y = refl
+      go (some d) none = unread (besideBroken node d)
+      go (some d) (some t) = rw (both-lawful node (typedLawful node names) d t) (kept (besideBroken node d) (typedLawful node names t))

@@ -4,3 +4,4 @@ pub mod PlainLaws
 pub mod InsideLaws
 pub mod VerdictLaws
 pub mod ValueLaws
+pub mod WholeLaws

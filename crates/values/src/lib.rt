@@ -1,4 +1,5 @@
 // Values judged under a dictionary.
 mod walker;
 
+pub use walker::lawful;
 pub use walker::value;

@@ -142,3 +142,17 @@ pub fn value(levels: usize, readings: &[u8], metadata: &[u8], names: Names, s: &
         Reading::Nothing => false,
     }
 }
+
+// Bytes are one lawful value, within so many levels: it ends where they do.
+pub fn lawful(levels: usize, readings: &[u8], metadata: &[u8], names: Names, s: &[u8]) -> bool
+    requires { ⌜ Opened (now metadata) names × Readings (now readings) × (length (now s) ≤ mostWalked) ⌝ }
+    ensures { λ r. ⌜ r ≡ isThere (meaningOf levels (namesIn (now (metadata .entry))) (now (s .entry))) ⌝ }
+{
+    let Extent::Size(size) = heads::extent_of(readings, s) else {
+        return false;
+    };
+    if size != s.len() {
+        return false;
+    }
+    value(levels, readings, metadata, names, s)
+}

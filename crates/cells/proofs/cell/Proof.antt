@@ -1,22 +1,13 @@
--- `cell`: each answer by the tests that led there.
-use mathlib.Core.Path.{_∙_}
+-- `cell`: in the order of the refusals.
 use borrow.Author.Needs.{needs}
-use Rattle.cells.proofs.CellLaws.{too-long, no-code, binary-read, string-read, wrong-size, number-read}
-use Rattle.cells.proofs.CodeLaws.{code-most, number-sized}
+use borrow.Author.Tests.{not-false}
+use Rattle.cells.proofs.CellLaws.{too-long, no-code, known-code, no-meaning, meaning, there-good}
 use Rattle.cells.proofs.cell.Statement.{statement}
 use Rattle.cells.proofs.cell.Tie as tie
-
-returns : tie.Need-returns
-returns c = too-long _ _ (c .if1 .taken)
-
-returns-3 : tie.Need-returns-3
-returns-3 c = c .yes-no .ensures ∙ rw (c .before .if3 .taken)
 
 pub cell-spec : {M : Type 1} → statement M
 cell-spec =
     tie.close
-    (tie.spec returns
-    (λ c κs. search needs) (λ c. search (needs, no-code))
-    (λ c κs. search needs) returns-3 (λ c. search (needs, binary-read)) (λ c. search (needs, string-read))
-    (λ c κs. search (needs, code-most)) (λ c. search (needs, wrong-size)) (λ c κs. search (needs, number-sized))
-    (λ c. search (needs, number-read)))
+    (tie.spec
+    (λ c. search too-long) (λ c κs. search needs) (λ c. search no-code) (λ c κs. search known-code) (λ c. search no-meaning)
+    (λ c κs. (search known-code, there-good _ _ _ (c .before .good2 .ensures) (c .if3 .left))) (λ c. search meaning))
