@@ -1,0 +1,3 @@
+-- Laws of schemas by position, for the crates above.
+pub mod FramingLaws
+pub mod KindLaws
