@@ -11,8 +11,9 @@ use lib.Dec.{leb}
 use lib.ListN.{length, take, drop, length-drop}
 use lib.Seq.{take-nil, take-take, length-take-le, drop-drop, drop-cons}
 use Rattle.numbers.specs.Little.{numberAt}
-use Rattle.paper.specs.Framing.{Piece, piecesWithin, piecesOf}
+use Rattle.paper.specs.Framing.{Piece, piecesWithin, piecesOf, only, onePiece}
 use Rattle.paper.specs.Words.{at, part, given, andThen}
+use Rattle.paper.proofs.WordLaws.{and-both}
 use Rattle.schemas.specs.Positions.{frameEnd, pieceAt, frameWithin}
 
 -- ---- the bytes between two positions
@@ -43,6 +44,12 @@ part-earlier s from to n h = take-take n (to - from) (drop from s) (omega arith)
 number-part : (s : List ℕ) (from to : ℕ) → from + 2 ≤ to → numberAt (part s from to) 0 2 ≡ numberAt s from 2
 unfolding numberAt
 number-part s from to h = rw (part-earlier s from to 2 h)
+
+-- ---- frames
+
+pub frame-ends : (s : List ℕ) (place end : ℕ) → frameWithin s place end ≡ true → frameEnd s place ≤ end
+unfolding frameWithin
+frame-ends s place end e = leb-true (frameEnd s place) end (and-both (leb (place + 3) end) (leb (frameEnd s place) end) e .1)
 
 -- ---- pieces
 
@@ -116,3 +123,39 @@ module _ (s : List ℕ) (from to : ℕ) (within : to ≤ length s) where
           let head : from + 3 ≤ to = leb-true (from + 3) to e in
           let past : to < frameEnd s from = leb-false (frameEnd s from) to (rw e at k) in
           pieces-head head ∙ rw (lt-leb (2 + numberAt s (from + 1) 2) (to - suc from) (omega arith))
+
+  pub pieces-step : from < to → piecesOf (part s from to) ≡ given (frameWithin s from to) (pieceThen (pieceAt s from) (piecesOf (part s (frameEnd s from) to)))
+  unfolding given
+  pieces-step h = go (frameWithin s from to) refl
+    where
+      go : (b : Bool) → frameWithin s from to ≡ b → piecesOf (part s from to) ≡ given b (pieceThen (pieceAt s from) (piecesOf (part s (frameEnd s from) to)))
+      go false e = pieces-cut h e
+      go true e = pieces-next (frame-ends s from to e)
+
+-- ---- one piece
+
+two-not-one : (first second : Piece) (framed : Bool) (rest : Option (List Piece)) → andThen (pieceThen first (given framed (pieceThen second rest))) only ≡ none
+unfolding pieceThen given andThen only
+two-not-one first second false rest = refl
+two-not-one first second true none = refl
+two-not-one first second true (some more) = refl
+
+module _ (s : List ℕ) (from to : ℕ) (within : to ≤ length s) where
+  pub one-piece : frameEnd s from ≡ to → onePiece (part s from to) ≡ some (pieceAt s from)
+  unfolding onePiece only pieceThen andThen
+  one-piece e = rw (pieces-next s from to within (omega arith), pieces-ended s (frameEnd s from) to (omega arith))
+
+  pub one-not : (frameEnd s from ≡ to → ⊥) → onePiece (part s from to) ≡ none
+  unfolding onePiece given andThen only
+  one-not h = go (leb to from) refl
+    where
+      framed : from < to → (b : Bool) → frameWithin s from to ≡ b → andThen (given b (pieceThen (pieceAt s from) (piecesOf (part s (frameEnd s from) to)))) only ≡ none
+      framed k false e = refl
+      framed k true e =
+          let ends : frameEnd s from ≤ to = frame-ends s from to e in
+          let before : frameEnd s from < to = omega arith in
+          rw (pieces-step s (frameEnd s from) to within before) (two-not-one (pieceAt s from) (pieceAt s (frameEnd s from)) (frameWithin s (frameEnd s from) to) (piecesOf (part s (frameEnd s (frameEnd s from)) to)))
+
+      go : (b : Bool) → leb to from ≡ b → andThen (piecesOf (part s from to)) only ≡ none
+      go true e = rw (pieces-ended s from to (leb-true to from e))
+      go false e = let k : from < to = leb-false to from e in rw (pieces-step s from to within k) (framed k (frameWithin s from to) refl)

@@ -1,3 +1,6 @@
 -- Laws of schemas by position, for the crates above.
 pub mod FramingLaws
 pub mod KindLaws
+pub mod FrameLaws
+pub mod NodeLaws
+pub mod FieldLaws

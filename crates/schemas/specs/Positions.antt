@@ -1,5 +1,5 @@
 -- A schema stays bytes: frames, nodes and fields are known by the positions where they stand.
-use mathlib.Core.Bool.{Bool, true, _&&_}
+use mathlib.Core.Bool.{Bool, true, _&&_, _||_}
 use mathlib.Core.List.{List}
 use mathlib.Core.Option.{Option, some}
 use mathlib.Core.Path.{_≡_}
@@ -7,9 +7,10 @@ use Prim.Native.Nat.{ℕ, _+_, _≤_}
 use lib.Dec.{leb, eqb}
 use lib.ListN.{length}
 use Rattle.numbers.specs.Little.{numberAt}
+use Rattle.order.specs.Before.{before}
 use Rattle.paper.specs.Framing.{Piece, piecesOf, onePiece}
 use Rattle.paper.specs.Metadata.{rising}
-use Rattle.paper.specs.Schemas.{Schema, SchemaFields, columnNames, fieldNodes, nodeOf}
+use Rattle.paper.specs.Schemas.{Schema, SchemaFields, columnNames, fieldNodes, fieldsTag, nodeBy, nodeOf}
 use Rattle.paper.specs.Words.{at, part, andThen}
 
 -- ---- frames
@@ -34,7 +35,15 @@ abbrev pub fieldNode : List ℕ → ℕ → ℕ
 fieldNode s place = frameEnd s (place + 3)
 
 abbrev pub fieldName : List ℕ → ℕ → List ℕ
-fieldName s place = part s (place + 6) (fieldNode s place)
+fieldName s place = pieceAt s (place + 3) .body
+
+-- The frame of the field at a position is whole and ends at another at the latest, and so is that of its name in it.
+unfoldable pub fieldWithin : List ℕ → (place end : ℕ) → Bool
+fieldWithin s place end = taggedWithin s place end 0x31 && taggedWithin s (place + 3) (frameEnd s place) 0x32
+
+-- The field at a position is the first one, or its name comes behind that of the one before it.
+unfoldable pub followsAt : List ℕ → (last place : ℕ) → Bool
+followsAt s last place = eqb last place || before (fieldName s last) (fieldName s place)
 
 -- ---- what the bytes between two positions are, with so many levels left
 
@@ -43,6 +52,9 @@ nodeIn levels s from to = andThen (onePiece (part s from to)) (nodeOf levels)
 
 unfoldable pub columnsIn : (levels : ℕ) → List ℕ → (from to : ℕ) → Option SchemaFields
 columnsIn levels s from to = andThen (piecesOf (part s from to)) (fieldNodes (nodeOf levels))
+
+unfoldable pub objectIn : (levels : ℕ) → List ℕ → (from to : ℕ) → Option Schema
+objectIn levels s from to = nodeBy (nodeOf levels) fieldsTag (part s from to)
 
 -- ---- what stands in a schema
 

@@ -55,7 +55,7 @@ pub fn field_name(schema: &[u8], place: usize) -> &[u8]
     requires { ⌜ fieldNode (now schema) place ≤ length (now schema) ⌝ }
     ensures { λ r. ⌜ now r ≡ fieldName (now (schema .entry)) place ⌝ }
 {
-    let from = place + 6;
+    let from = place + 3 + 3;
     let to = field_node(schema, place);
     &schema[from..to]
 }
