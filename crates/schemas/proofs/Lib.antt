@@ -4,3 +4,4 @@ pub mod KindLaws
 pub mod FrameLaws
 pub mod NodeLaws
 pub mod FieldLaws
+pub mod ObjectLaws
