@@ -9,3 +9,4 @@ pub mod StandingLaws
 pub mod FieldsStandLaws
 pub mod GoodLaws
 pub mod WalkLaws
+pub mod WrittenLaws
