@@ -2,3 +2,4 @@
 pub mod VerdictLaws
 pub mod PartLaws
 pub mod PlaceLaws
+pub mod StepLaws

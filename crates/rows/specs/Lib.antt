@@ -1,3 +1,4 @@
 -- What a row comes to under its schema, place by place.
 pub mod Verdicts
 pub mod Parts
+pub mod Frames

@@ -27,6 +27,7 @@ field-there first = ap someField (first .are)
 module _ (s : List ℕ) where
   mutual
     unfolding goodSchema goodFields
+
     pub node-good : (node : Schema) (levels place : ℕ) → Stands levels s place node → goodSchema node levels ≡ true
     node-good leftoverOnly levels place stands = level-there stands
     node-good (column said) levels place stands = both (level-there stands) (column-stands stands .good)
