@@ -7,7 +7,7 @@ use Prim.Native.Nat.{ℕ, zero, suc, _+_, _-_, _≤_, _<_}
 use native.Mathlib.Omega.{arith}
 use borrow.Author.Tests.{le-leb, lt-leb, leb-true, leb-false}
 use lib.Dec.{leb}
-use lib.ListN.{length, take, drop, length-drop, drop-of-length-le}
+use lib.ListN.{length, take, drop, length-take, length-drop, drop-of-length-le}
 use lib.Seq.{drop-cons, drop-drop}
 use Rattle.frames.specs.Frames.{frameEnd, frameBy, frameAt, pieceIn}
 use Rattle.frames.specs.declared.Frame.the-variants.{Ends, Cut}
@@ -188,3 +188,45 @@ pieces-first-is s place first rest e = go (leb (length s) place) refl
     go : (b : Bool) → leb (length s) place ≡ b → FirstIs s place first rest
     go true f = absurd (nil-cons (sym (pieces-ended s place (leb-true (length s) place f)) ∙ e))
     go false f = there (frameEnd s place) refl (sym (pieces-at s place (leb-false (length s) place f)) ∙ e)
+
+-- Bytes of one piece: its frame ends where they do.
+pub record OneFrame (s : List ℕ) (first : Piece) : Type 0 where
+  pub is : first ≡ pieceIn s 0 (length s)
+  pub long : 3 ≤ length s
+
+pub one-frame : (s : List ℕ) (first : Piece) → piecesOf s ≡ some (first ∷ []) → OneFrame s first
+one-frame s first e =
+    let f = pieces-first-is s 0 first [] e in
+    let fits = frame-fits s 0 (f .end) (f .ends) in
+    let over = pieces-end-is s (f .end) (f .behind) in
+    let all : f .end ≡ length s = omega arith in
+    record { is = f .is ∙ ap (pieceIn s 0) all; long = omega arith }
+
+-- Bytes of two pieces: the second frame ends where they do.
+pub record TwoFrames (s : List ℕ) (first second : Piece) : Type 0 where
+  pub end : ℕ
+  pub ends : frameEnd s 0 ≡ some end
+  pub size : 3 + length (first .body) ≡ end
+  pub first-is : first ≡ pieceIn s 0 end
+  pub second-is : second ≡ pieceIn s end (length s)
+  pub first-long : 3 ≤ end
+  pub second-long : end + 3 ≤ length s
+
+pub two-frames : (s : List ℕ) (first second : Piece) → piecesOf s ≡ some (first ∷ second ∷ []) → TwoFrames s first second
+two-frames s first second e =
+    let f = pieces-first-is s 0 first (second ∷ []) e in
+    let g = pieces-first-is s (f .end) second [] (f .behind) in
+    let fits = frame-fits s 0 (f .end) (f .ends) in
+    let behind = frame-fits s (f .end) (g .end) (g .ends) in
+    let over = pieces-end-is s (g .end) (g .behind) in
+    let all : g .end ≡ length s = omega arith in
+    let long : length (take (f .end - 3) (drop 3 s)) ≡ f .end - 3 = rw (length-take, length-drop) (omega arith) in
+    record {
+      end = f .end;
+      ends = f .ends;
+      size = ap (λ (p : Piece). 3 + length (p .body)) (f .is) ∙ (let is : 3 + length (take (f .end - 3) (drop 3 s)) ≡ f .end = omega arith in is);
+      first-is = f .is;
+      second-is = g .is ∙ ap (pieceIn s (f .end)) all;
+      first-long = omega arith;
+      second-long = omega arith;
+    }

@@ -3,11 +3,11 @@ use mathlib.Core.Bool.{Bool, true, false, cond, not, _&&_, _||_}
 use mathlib.Core.List.{List, [], _∷_}
 use mathlib.Core.Option.{Option, none, some}
 use mathlib.Core.Path.{_≡_, refl, sym, ap, _∙_}
-use Prim.Native.Nat.{ℕ, _+_, _≤_, _<_}
+use Prim.Native.Nat.{ℕ, _+_, _≤_}
 use native.Mathlib.Omega.{arith}
 use borrow.Author.Tests.{eqb-true}
 use lib.Dec.{eqb}
-use lib.ListN.{length, take, drop, length-take, length-drop}
+use lib.ListN.{length}
 use Rattle.frames.specs.Frames.{pieceIn}
 use Rattle.paper.specs.Framing.{Piece, piecesOf}
 use Rattle.paper.specs.Meaning.{Doc, null, scalar, array, object}
@@ -16,7 +16,7 @@ use Rattle.paper.specs.Rows.{Place, empty, leftover, typed, both, Typed, leftov
 use Rattle.paper.specs.Rules.{hasLeftover, hasTyped, leftoverOf, isObject, isArray, isFieldsNode, isListNode, namedBy, hasAny, breaksA, breaksB, breaksC, breaksD, breaksE, insideLawful, placeLawfulBy, placeLawful}
 use Rattle.paper.specs.Schemas.{Schema}
 use Rattle.paper.specs.Words.{at, part, given, andThen}
-use Rattle.frames.proofs.FrameLaws.{FirstIs, pieces-end-is, pieces-first-is, pieces-ended, frame-fits}
+use Rattle.frames.proofs.FrameLaws.{OneFrame, one-frame, TwoFrames, two-frames, pieces-end-is, pieces-ended}
 use Rattle.rows.proofs.VerdictLaws.{place-under, place-lawful}
 use Rattle.rows.specs.Parts.{partBy, partsIn, partsBy, partsOf}
 use Rattle.rows.specs.Verdicts.{verdictOf, typedUnder, typedLawful, typedVerdict, placeVerdict, brokenIf}
@@ -54,26 +54,15 @@ module _ (body : List ℕ) where
   unfolding partBy
   told-one first e = go (eqb (first .tag) 0x41) refl (eqb (first .tag) 0x42) refl
     where
-      f : FirstIs body 0 first []
-      f = pieces-first-is body 0 first [] e
-
-      whole : f .end ≡ length body
-      whole =
-          let fits = frame-fits body 0 (f .end) (f .ends) in
-          let over = pieces-end-is body (f .end) (f .behind) in
-          omega arith
-
-      is : first ≡ pieceIn body 0 (length body)
-      is = f .is ∙ ap (pieceIn body 0) whole
+      f : OneFrame body first
+      f = one-frame body first e
 
       one : (tag : ℕ) → first .tag ≡ tag → OnePiece body tag
       one tag g =
-          let fits = frame-fits body 0 (f .end) (f .ends) in
-          let all = whole in
           record {
-            tagged = ap (λ (p : Piece). p .tag) (sym is) ∙ g;
-            pieces = e ∙ ap (λ (p : Piece). some (p ∷ [])) is;
-            long = omega arith;
+            tagged = ap (λ (p : Piece). p .tag) (sym (f .is)) ∙ g;
+            pieces = e ∙ ap (λ (p : Piece). some (p ∷ [])) (f .is);
+            long = f .long;
           }
 
       go : (b : Bool) → eqb (first .tag) 0x41 ≡ b → (c : Bool) → eqb (first .tag) 0x42 ≡ c → Told body (cond b Leftover (cond c TypedPart Unframed))
@@ -85,47 +74,21 @@ module _ (body : List ℕ) where
       → Told body (cond (eqb (first .tag) 0x41 && eqb (second .tag) 0x42) (Both (3 + length (first .body))) Unframed)
   told-two first second e = go (eqb (first .tag) 0x41) refl (eqb (second .tag) 0x42) refl
     where
-      f : FirstIs body 0 first (second ∷ [])
-      f = pieces-first-is body 0 first (second ∷ []) e
-
-      g : FirstIs body (f .end) second []
-      g = pieces-first-is body (f .end) second [] (f .behind)
-
-      first-fits : (0 + 3 ≤ f .end) × (f .end ≤ length body)
-      first-fits = frame-fits body 0 (f .end) (f .ends)
-
-      second-fits : (f .end + 3 ≤ g .end) × (g .end ≤ length body)
-      second-fits = frame-fits body (f .end) (g .end) (g .ends)
-
-      whole : g .end ≡ length body
-      whole =
-          let fits = second-fits in
-          let over = pieces-end-is body (g .end) (g .behind) in
-          omega arith
-
-      size : 3 + length (first .body) ≡ f .end
-      size =
-          let fits = first-fits in
-          ap (λ (p : Piece). 3 + length (p .body)) (f .is) ∙ rw (length-take, length-drop) (omega arith)
-
-      second-is : second ≡ pieceIn body (f .end) (length body)
-      second-is = g .is ∙ ap (pieceIn body (f .end)) whole
+      f : TwoFrames body first second
+      f = two-frames body first second e
 
       two : first .tag ≡ 0x41 → second .tag ≡ 0x42 → TwoPieces body (f .end)
       two left right =
-          let fits = first-fits in
-          let behind = second-fits in
-          let all = whole in
           record {
-            first-tag = ap (λ (p : Piece). p .tag) (sym (f .is)) ∙ left;
-            second-tag = ap (λ (p : Piece). p .tag) (sym second-is) ∙ right;
-            pieces = e ∙ rw (← f .is, ← second-is);
-            first-long = omega arith;
-            second-long = omega arith;
+            first-tag = ap (λ (p : Piece). p .tag) (sym (f .first-is)) ∙ left;
+            second-tag = ap (λ (p : Piece). p .tag) (sym (f .second-is)) ∙ right;
+            pieces = e ∙ rw (← f .first-is, ← f .second-is);
+            first-long = f .first-long;
+            second-long = f .second-long;
           }
 
       go : (b : Bool) → eqb (first .tag) 0x41 ≡ b → (c : Bool) → eqb (second .tag) 0x42 ≡ c → Told body (cond (b && c) (Both (3 + length (first .body))) Unframed)
-      go true h true k = rw size (two (eqb-true (first .tag) 0x41 h) (eqb-true (second .tag) 0x42 k))
+      go true h true k = rw (f .size) (two (eqb-true (first .tag) 0x41 h) (eqb-true (second .tag) 0x42 k))
       go true h false k = λ left right. unfold andThen in unfold placeParts in unfold given in rw (e, h, k)
       go false h c k = λ left right. unfold andThen in unfold placeParts in unfold given in rw (e, h)
 
@@ -205,8 +168,8 @@ module _ (node : Schema) (levels : ℕ) (names : Dictionary) (body : List ℕ) w
   place-left told = by-parts ∙ rw (told .pieces, told .tagged) (go (leftoverMeaning levels names (part body 3 (length body))))
     where
       kept : (b : Bool) → cond (not b) Lawful Broken ≡ brokenIf b Lawful
-      kept true = unfold brokenIf in refl
-      kept false = unfold brokenIf in refl
+      kept true = refl
+      kept false = refl
 
       go : (x : Option Doc) → verdictOf (andThen x λ d. some (leftover d)) (placeLawfulBy node (typedLawful node names)) ≡ withLeft x λ d. brokenIf (leftBroken node d) Lawful
       go none = refl
@@ -230,13 +193,13 @@ module _ (node : Schema) (levels : ℕ) (names : Dictionary) (body : List ℕ) w
       (go (leftoverMeaning levels names (part body 3 end)) (typedUnder node levels names (part body (end + 3) (length body))))
     where
       kept : (b c : Bool) → cond (not b && c) Lawful Broken ≡ brokenIf b (cond c Lawful Broken)
-      kept true true = unfold brokenIf in refl
-      kept true false = unfold brokenIf in refl
-      kept false c = unfold brokenIf in refl
+      kept true true = refl
+      kept true false = refl
+      kept false c = refl
 
       unread : (b : Bool) → Unparsed ≡ brokenIf b Unparsed
-      unread true = unfold brokenIf in refl
-      unread false = unfold brokenIf in refl
+      unread true = refl
+      unread false = refl
 
       go : (x : Option Doc) (y : Option Typed) → verdictOf (andThen x λ d. andThen y λ t. some (both d t)) (placeLawfulBy node (typedLawful node names))
           ≡ withLeft x λ d. brokenIf (besideBroken node d) (verdictOf y (typedLawful node names))

@@ -39,14 +39,14 @@ present p = hasLeftover p || hasTyped p
 verdict-by : {A : Type 0} (x : Option A) (broken : A → Bool) (b : Bool) (keeps : A → Bool) → ((a : A) → x ≡ some a → broken a ≡ b)
     → verdictOf x (λ a. not (broken a) && keeps a) ≡ brokenIf b (verdictOf x keeps)
 unfolding verdictOf
-verdict-by none broken true keeps always = unfold brokenIf in refl
-verdict-by none broken false keeps always = unfold brokenIf in refl
+verdict-by none broken true keeps always = refl
+verdict-by none broken false keeps always = refl
 verdict-by (some a) broken b keeps always = rw (always a refl) (go b (keeps a))
   where
     go : (b c : Bool) → cond (not b && c) Lawful Broken ≡ brokenIf b (cond c Lawful Broken)
-    go true true = unfold brokenIf in refl
-    go true false = unfold brokenIf in refl
-    go false c = unfold brokenIf in refl
+    go true true = refl
+    go true false = refl
+    go false c = refl
 
 module _ (node : Schema) (levels : ℕ) (names : Dictionary) (body : List ℕ) where
   abbrev Held : Option Place

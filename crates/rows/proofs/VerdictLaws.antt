@@ -4,6 +4,7 @@ use mathlib.Core.List.{List, [], _∷_}
 use mathlib.Core.Option.{Option, none, some}
 use mathlib.Core.Path.{_≡_, refl, sym, ap, _∙_}
 use Prim.Native.Nat.{ℕ, _-_}
+use borrow.Author.Tests.{not-false}
 use lib.ListN.{length, drop}
 use Rattle.paper.specs.Framing.{Piece, piecesOf}
 use Rattle.paper.specs.Metadata.{Dictionary}
@@ -11,6 +12,7 @@ use Rattle.paper.specs.Rows.{Place, Typed, inner, Places, noPlaces, place, plac
 use Rattle.paper.specs.Rules.{breaksE, breaksF, innerLawful, elementsLawful, fieldsLawful, placeLawful, placeLawfulBy}
 use Rattle.paper.specs.Schemas.{Schema, leftoverOnly, column, list, fields, SchemaFields, noColumns, named}
 use Rattle.paper.specs.Words.{andThen}
+use Rattle.paper.proofs.WordLaws.{never}
 use Rattle.rows.specs.Verdicts.{verdictOf, typedUnder, typedLawful, typedVerdict, placeVerdict, elementsVerdict, membersVerdict, worse, brokenIf}
 use Rattle.rows.specs.declared.verdicts.Verdict.the-variants.{Lawful, Broken, Unparsed}
 use Rattle.rows.specs.declared.verdicts.Verdict.{Verdict}
@@ -34,19 +36,16 @@ place-lawful (fields columns) names = refl
 -- ---- two together
 
 pub worse-unparsed : (v : Verdict) → worse v Unparsed ≡ Unparsed
-unfolding worse
 worse-unparsed Lawful = refl
 worse-unparsed Broken = refl
 worse-unparsed Unparsed = refl
 
 pub worse-lawful : (v : Verdict) → worse v Lawful ≡ v
-unfolding worse
 worse-lawful Lawful = refl
 worse-lawful Broken = refl
 worse-lawful Unparsed = refl
 
 pub worse-assoc : (a b c : Verdict) → worse (worse a b) c ≡ worse a (worse b c)
-unfolding worse
 worse-assoc Unparsed b c = refl
 worse-assoc Lawful b c = refl
 worse-assoc Broken Unparsed c = refl
@@ -57,7 +56,7 @@ worse-assoc Broken Broken Unparsed = refl
 
 -- A test more: a rule that is broken.
 pub verdict-also : {A : Type 0} (x : Option A) (broken : Bool) (keeps : A → Bool) → verdictOf x (λ a. not broken && keeps a) ≡ brokenIf broken (verdictOf x keeps)
-unfolding verdictOf brokenIf
+unfolding verdictOf
 verdict-also none true keeps = refl
 verdict-also none false keeps = refl
 verdict-also (some a) false keeps = refl
@@ -96,7 +95,7 @@ typed-fields columns levels names s = inner-verdict (fieldPlaces columns (levels
 both-verdicts : (x : Option Place) (y : Option Places) (one : Place → Bool) (others keeps : Places → Bool)
     → ((p : Place) (ps : Places) → keeps (place p ps) ≡ one p && others ps)
     → verdictOf (andThen x λ p. andThen y λ ps. some (place p ps)) keeps ≡ worse (verdictOf x one) (verdictOf y others)
-unfolding verdictOf andThen worse
+unfolding verdictOf andThen
 both-verdicts none y one others keeps split = refl
 both-verdicts (some p) none one others keeps split = go (one p)
   where
@@ -125,3 +124,22 @@ unfolding fieldPlaces fieldsLawful
 fields-step name node columns levels names piece more =
     both-verdicts (placeUnder node levels names piece) (fieldPlaces columns levels names more) (λ p. not (breaksF names name p) && placeLawful node names p)
     (fieldsLawful columns names) (fieldsLawful (named name node columns) names) (λ p ps. refl)
+
+-- ---- for the code
+
+pub not-broken : (b : Bool) (v : Verdict) → not b ≡ true → v ≡ brokenIf b v
+not-broken false v e = refl
+not-broken true v e = never (sym e)
+
+module _ (b : Bool) (v : Verdict) (yes : not b ≡ false) where
+  broken-by : (w : Verdict) → v ≡ w → brokenIf true w ≡ brokenIf b v
+  broken-by w e = rw (not-false b yes, e)
+
+  pub still-unparsed : v ≡ Unparsed → Unparsed ≡ brokenIf b v
+  still-unparsed e = broken-by Unparsed e
+
+  pub still-broken : v ≡ Broken → Broken ≡ brokenIf b v
+  still-broken e = broken-by Broken e
+
+  pub now-broken : v ≡ Lawful → Broken ≡ brokenIf b v
+  now-broken e = broken-by Lawful e

@@ -54,16 +54,14 @@ rowVerdict schema row = verdictOf (rowOf schema row) (rowLawful schema)
 
 -- ---- two together: a 6 anywhere wins, then a 7
 
-unfoldable pub worse : Verdict → Verdict → Verdict
-worse Unparsed second = Unparsed
-worse Broken Unparsed = Unparsed
-worse Broken Broken = Broken
-worse Broken Lawful = Broken
-worse Lawful second = second
-
--- Where a rule of the place itself is broken.
-unfoldable pub brokenIf : Bool → Verdict → Verdict
+-- Where a rule is broken besides.
+abbrev pub brokenIf : Bool → Verdict → Verdict
 brokenIf true Unparsed = Unparsed
 brokenIf true Broken = Broken
 brokenIf true Lawful = Broken
 brokenIf false verdict = verdict
+
+abbrev pub worse : Verdict → Verdict → Verdict
+worse Unparsed second = Unparsed
+worse Broken second = brokenIf true second
+worse Lawful second = second
