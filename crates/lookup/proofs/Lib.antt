@@ -1,0 +1,4 @@
+-- Laws of looking a name up, for the crates above.
+pub mod IdLaws
+pub mod HalvingLaws
+pub mod OrderedLaws
