@@ -1,0 +1,7 @@
+-- Laws of schemas by position, for the crates above.
+pub mod FramingLaws
+pub mod KindLaws
+pub mod FrameLaws
+pub mod NodeLaws
+pub mod FieldLaws
+pub mod ObjectLaws

@@ -1,0 +1,3 @@
+-- A schema as bytes: what stands in it, and where.
+pub mod Positions
+pub mod Kinds

@@ -1,0 +1,10 @@
+// Schemas: a lent one judged, and a good one's nodes and fields handed out by position. The schema stays bytes.
+mod judge;
+mod readers;
+
+pub use judge::good;
+pub use readers::Kind;
+pub use readers::field_name;
+pub use readers::field_node;
+pub use readers::frame_end;
+pub use readers::kind_at;

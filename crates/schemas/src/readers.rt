@@ -1,0 +1,61 @@
+// A good schema read by position: the kind of a node, where a frame ends, a field's name and node.
+//
+// Whoever calls these has shown that what is read stands there.
+ghost use mathlib.Core.Path.{_≡_};
+ghost use Prim.Native.Nat.{_+_, _≤_, _<_};
+ghost use lib.ListN.{length};
+ghost use Rattle.paper.specs.Words.{at};
+ghost use Rattle.schemas.specs.Positions.{frameEnd, fieldNode, fieldName};
+ghost use Rattle.schemas.specs.Kinds.{kindAt};
+
+// The kind of a node: leftover only, a column of a type code, a list, an object with fields.
+pub enum Kind {
+    Leftover,
+    Column(u8),
+    List,
+    Fields,
+}
+
+// The kind of the node at a position.
+pub fn kind_at(schema: &[u8], place: usize) -> Kind
+    requires { ⌜ (place < length (now schema)) × (at (now schema) place ≡ 0x10 → place + 3 < length (now schema)) ⌝ }
+    ensures { λ r. ⌜ r ≡ kindAt (now (schema .entry)) place ⌝ }
+{
+    let tag = schema[place];
+    if tag == 0x00 {
+        return Kind::Leftover;
+    }
+    if tag == 0x10 {
+        return Kind::Column(schema[place + 3]);
+    }
+    if tag == 0x20 {
+        return Kind::List;
+    }
+    Kind::Fields
+}
+
+// Where the frame at a position ends: behind a node all of it, behind a field the next one or the object's end.
+pub fn frame_end(schema: &[u8], place: usize) -> usize
+    requires { ⌜ frameEnd (now schema) place ≤ length (now schema) ⌝ }
+    ensures { λ r. ⌜ r ≡ frameEnd (now (schema .entry)) place ⌝ }
+{
+    place + 3 + numbers::read(schema, place + 1, 2)
+}
+
+// Where the node of the field at a position stands: behind the name.
+pub fn field_node(schema: &[u8], place: usize) -> usize
+    requires { ⌜ fieldNode (now schema) place ≤ length (now schema) ⌝ }
+    ensures { λ r. ⌜ r ≡ fieldNode (now (schema .entry)) place ⌝ }
+{
+    frame_end(schema, place + 3)
+}
+
+// The name of the field at a position.
+pub fn field_name(schema: &[u8], place: usize) -> &[u8]
+    requires { ⌜ fieldNode (now schema) place ≤ length (now schema) ⌝ }
+    ensures { λ r. ⌜ now r ≡ fieldName (now (schema .entry)) place ⌝ }
+{
+    let from = place + 3 + 3;
+    let to = field_node(schema, place);
+    &schema[from..to]
+}
