@@ -5,3 +5,6 @@ pub mod FrameLaws
 pub mod NodeLaws
 pub mod FieldLaws
 pub mod ObjectLaws
+pub mod StandingLaws
+pub mod FieldsStandLaws
+pub mod GoodLaws
