@@ -12,7 +12,7 @@ use lib.ListN.{length}
 use Rattle.paper.specs.Framing.{onePiece}
 use Rattle.paper.specs.Metadata.{rising}
 use Rattle.paper.specs.Schemas.{Schema, SchemaFields, noColumns, named, columnNames, nodeOf}
-use Rattle.paper.specs.Words.{part, andThen}
+use Rattle.paper.specs.Words.{at, part, andThen}
 use Rattle.paper.proofs.WordLaws.{given-some, then-some}
 use Rattle.names.proofs.RisingLaws.{rising-more}
 use Rattle.schemas.proofs.FieldLaws.{fieldThen, columns-at, columns-ended}
@@ -31,6 +31,8 @@ node-stands levels s from to node within e =
 
 -- A field stands at a place: its name, its node, and the fields behind it.
 pub record FieldStands (levels : ℕ) (s : List ℕ) (place to : ℕ) (name : List ℕ) (node : Schema) (more : SchemaFields) : Type 0 where
+  pub tagged : at s place ≡ 0x31
+  pub name-tagged : at s (place + 3) ≡ 0x32
   pub name-is : name ≡ fieldName s place
   pub inside : Stands levels s (fieldNode s place) node
   pub fills : frameEnd s (fieldNode s place) ≡ frameEnd s place
@@ -76,8 +78,24 @@ module _ {levels : ℕ} {s : List ℕ} {place to : ℕ} where
         node = node .0;
         more = more .0;
         are = sym same;
-        stands = record { name-is = refl; inside = inside .0; fills = inside .1; frame-in = here .frame-in; behind = behind };
+        stands = record {
+          tagged = here .tagged;
+          name-tagged = here .name-tagged;
+          name-is = refl;
+          inside = inside .0;
+          fills = inside .1;
+          frame-in = here .frame-in;
+          behind = behind;
+        };
       }
+
+  -- No fields are none at all, and a field is one at least.
+  pub no-columns : FieldsStand levels s place to noColumns → place ≡ to
+  no-columns stand = go (leb to place) refl
+    where
+      go : (b : Bool) → leb to place ≡ b → place ≡ to
+      go true e = omega (arith, leb-true to place e, stand .ordered)
+      go false e = let first = first-field stand (leb-false to place e) in let z : _≡_ {A = ℕ} 0 1 = cc (first .are) in absurd (omega arith)
 
   some-left : {name : List ℕ} {node : Schema} {more : SchemaFields} → FieldsStand levels s place to (named name node more) → place < to
   some-left {name} {node} {more} stand = go (leb to place) refl

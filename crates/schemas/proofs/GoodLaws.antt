@@ -10,7 +10,7 @@ use Rattle.paper.specs.Metadata.{rising}
 use Rattle.paper.specs.Schemas.{Column, Schema, leftoverOnly, column, list, fields, SchemaFields, noColumns, named, columnNames, columnCode}
 use Rattle.paper.proofs.WordLaws.{and-both}
 use Rattle.schemas.proofs.FieldsStandLaws.{FirstField, first-field, FieldStands, field-stands}
-use Rattle.schemas.proofs.StandingLaws.{some-level, column-good, element-stands, fields-stand, some-field}
+use Rattle.schemas.proofs.StandingLaws.{some-level, ColumnStands, column-stands, ListStands, list-stands, ObjectStands, object-stands}
 use Rattle.schemas.specs.Positions.{frameEnd, fieldNode, Stands, FieldsStand}
 use Rattle.schemas.specs.Written.{someField, goodSchema, goodFields}
 
@@ -29,12 +29,13 @@ module _ (s : List ℕ) where
     unfolding goodSchema goodFields
     pub node-good : (node : Schema) (levels place : ℕ) → Stands levels s place node → goodSchema node levels ≡ true
     node-good leftoverOnly levels place stands = level-there stands
-    node-good (column said) levels place stands = both (level-there stands) (column-good stands)
-    node-good (list element) levels place stands = both (level-there stands) (node-good element (levels - 1) (place + 3) (element-stands stands))
+    node-good (column said) levels place stands = both (level-there stands) (column-stands stands .good)
+    node-good (list element) levels place stands = both (level-there stands) (node-good element (levels - 1) (place + 3) (list-stands stands .inside))
     node-good (fields columns) levels place stands =
-        let inside = fields-stand stands in
+        let object = object-stands stands in
+        let inside = object .inside in
         both (level-there stands)
-        (both (both (field-there (first-field inside (some-field stands))) (inside .rise)) (fields-good columns (levels - 1) (place + 3) (frameEnd s place) inside))
+        (both (both (field-there (first-field inside (object .some-field))) (inside .rise)) (fields-good columns (levels - 1) (place + 3) (frameEnd s place) inside))
 
     pub fields-good : (columns : SchemaFields) (levels place to : ℕ) → FieldsStand levels s place to columns → goodFields columns levels ≡ true
     fields-good noColumns levels place to stand = refl

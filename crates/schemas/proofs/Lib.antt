@@ -8,3 +8,4 @@ pub mod ObjectLaws
 pub mod StandingLaws
 pub mod FieldsStandLaws
 pub mod GoodLaws
+pub mod WalkLaws

@@ -2,3 +2,4 @@
 pub mod Positions
 pub mod Kinds
 pub mod Written
+pub mod Walk

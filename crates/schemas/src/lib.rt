@@ -8,3 +8,4 @@ pub use readers::field_name;
 pub use readers::field_node;
 pub use readers::frame_end;
 pub use readers::kind_at;
+pub use readers::next_frame;

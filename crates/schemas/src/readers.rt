@@ -7,6 +7,7 @@ ghost use lib.ListN.{length};
 ghost use Rattle.paper.specs.Words.{at};
 ghost use Rattle.schemas.specs.Positions.{frameEnd, fieldNode, fieldName};
 ghost use Rattle.schemas.specs.Kinds.{kindAt};
+ghost use Rattle.schemas.specs.Walk.{frameNext};
 
 // The kind of a node: leftover only, a column of a type code, a list, an object with fields.
 pub enum Kind {
@@ -58,4 +59,20 @@ pub fn field_name(schema: &[u8], place: usize) -> &[u8]
     let from = place + 3 + 3;
     let to = field_node(schema, place);
     &schema[from..to]
+}
+
+// The frame behind the head of the one at a position: with a field's name and a column's code passed over, the frames of
+// a schema are all visited so, outer ones first.
+pub fn next_frame(schema: &[u8], place: usize) -> usize
+    requires { ⌜ frameNext (now schema) place ≤ length (now schema) ⌝ }
+    ensures { λ r. ⌜ r ≡ frameNext (now (schema .entry)) place ⌝ }
+{
+    let tag = schema[place];
+    if tag == 0x31 {
+        return field_node(schema, place);
+    }
+    if tag == 0x10 {
+        return place + 4;
+    }
+    place + 3
 }
