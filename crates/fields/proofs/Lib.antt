@@ -1,0 +1,5 @@
+-- Laws of the table of field ids, for the crates above.
+pub mod EntryLaws
+pub mod SpotLaws
+pub mod ApartLaws
+pub mod ScanLaws
