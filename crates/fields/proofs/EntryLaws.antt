@@ -1,13 +1,13 @@
 -- Entries: an answer is read back from its entry, and of two fields that stand nine bytes apart each has its own.
 use mathlib.Core.List.{List}
-use mathlib.Core.Path.{_≡_, refl, sym, ap, _∙_}
+use mathlib.Core.Path.{_≡_, refl, ap}
 use Prim.Native.Nat.{ℕ, zero, suc, _+_, _-_, _/_, _≤_, _<_}
 use native.Mathlib.Numerals.{add-one}
 use native.Mathlib.Omega.{arith}
-use lib.ListN.{length, getD, set}
+use lib.ListN.{length, set}
 use lib.Seq.{getD-set-same, getD-set-other}
 use Rattle.dictionary.specs.declared.ids.InputId.{InputId}
-use Rattle.fields.specs.Telling.{entryOf, lookedOf, entryPlace, lookedAt, Noted}
+use Rattle.fields.specs.Telling.{entryOf, lookedOf, entryPlace, lookedAt}
 use Rattle.lookup.specs.Looking.{Tells, found, missing}
 use Rattle.lookup.specs.declared.Looked.{Looked}
 use Rattle.lookup.specs.declared.Looked.the-variants.{At, Nowhere}

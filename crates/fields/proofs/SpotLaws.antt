@@ -1,9 +1,8 @@
 -- The fields of a schema as one list, in the order of their positions: a table that tells of each of them tells of the
 -- schema.
 use mathlib.Core.List.{List, [], _∷_, _++_}
-use mathlib.Core.Path.{_≡_}
 use Prim.Native.Nat.{ℕ, _+_}
-use Rattle.fields.specs.Telling.{lookedAt, Told, FieldsTold}
+use Rattle.fields.specs.Telling.{lookedAt, Told, leftoverTold, columnTold, listTold, objectTold, FieldsTold, noneTold, fieldTold}
 use Rattle.lookup.specs.Looking.{Tells}
 use Rattle.paper.specs.Metadata.{Dictionary}
 use Rattle.paper.specs.Schemas.{Schema, leftoverOnly, column, list, fields, SchemaFields, noColumns, named}
@@ -42,15 +41,16 @@ module _ (names : Dictionary) (table : List ℕ) where
   told-behind (other ∷ first) spot told last = (told .0, told-behind first spot (told .1) last)
 
   mutual
-    unfolding AllTold Told FieldsTold spotsIn spotsOf
+    unfolding AllTold spotsIn spotsOf
+
     pub told-in : (s : List ℕ) (node : Schema) (place : ℕ) → AllTold (spotsIn s node place) → Told names s table node place
-    told-in s leftoverOnly place told = tt
-    told-in s (column said) place told = tt
-    told-in s (list element) place told = told-in s element (place + 3) told
-    told-in s (fields columns) place told = told-of s columns (place + 3) told
+    told-in s leftoverOnly place told = leftoverTold
+    told-in s (column said) place told = columnTold
+    told-in s (list element) place told = listTold (told-in s element (place + 3) told)
+    told-in s (fields columns) place told = objectTold (told-of s columns (place + 3) told)
 
     pub told-of : (s : List ℕ) (columns : SchemaFields) (place : ℕ) → AllTold (spotsOf s columns place) → FieldsTold names s table columns place
-    told-of s noColumns place told = tt
+    told-of s noColumns place told = noneTold
     told-of s (named name node more) place told =
         let parts = told-both (spotsIn s node (fieldNode s place)) (spotsOf s more (frameEnd s place)) (told .1) in
-        (told .0, told-in s node (fieldNode s place) (parts .0), told-of s more (frameEnd s place) (parts .1))
+        fieldTold (told .0) (told-in s node (fieldNode s place) (parts .0)) (told-of s more (frameEnd s place) (parts .1))

@@ -3,12 +3,11 @@ use mathlib.Core.List.{List}
 use mathlib.Core.Path.{_≡_}
 use Prim.Native.Nat.{ℕ, zero, suc, _+_, _/_}
 use lib.ListN.{getD, set}
-use Rattle.dictionary.specs.declared.ids.InputId.{InputId}
 use Rattle.lookup.specs.Looking.{Tells}
 use Rattle.lookup.specs.declared.Looked.{Looked}
 use Rattle.lookup.specs.declared.Looked.the-variants.{At, Nowhere}
 use Rattle.paper.specs.Metadata.{Dictionary}
-use Rattle.paper.specs.Schemas.{Schema, leftoverOnly, column, list, fields, SchemaFields, noColumns, named}
+use Rattle.paper.specs.Schemas.{Column, Schema, leftoverOnly, column, list, fields, SchemaFields, noColumns, named}
 use Rattle.schemas.specs.Positions.{frameEnd, fieldNode}
 
 -- ---- entries
@@ -31,21 +30,20 @@ lookedAt table place = lookedOf (getD table (entryPlace place) 0)
 
 -- ---- what a table tells
 
-unfoldable mutual
+mutual
   -- Of each field of a node that stands at a position, and of each node inside it.
-  pub Told : Dictionary → (schema table : List ℕ) → Schema → (place : ℕ) → Type 0
-  Told names schema table leftoverOnly place = Unit {0}
-  Told names schema table (column said) place = Unit {0}
-  Told names schema table (list element) place = Told names schema table element (place + 3)
-  Told names schema table (fields columns) place = FieldsTold names schema table columns (place + 3)
+  pub data Told (names : Dictionary) (schema table : List ℕ) : Schema → (place : ℕ) → Type 0 where
+    leftoverTold : {place : ℕ} → Told names schema table leftoverOnly place
+    columnTold : {said : Column} {place : ℕ} → Told names schema table (column said) place
+    listTold : {element : Schema} {place : ℕ} → Told names schema table element (place + 3) → Told names schema table (list element) place
+    objectTold : {columns : SchemaFields} {place : ℕ} → FieldsTold names schema table columns (place + 3) → Told names schema table (fields columns) place
 
-  -- A field, its node behind its name, the next field behind both.
-  pub FieldsTold : Dictionary → (schema table : List ℕ) → SchemaFields → (place : ℕ) → Type 0
-  FieldsTold names schema table noColumns place = Unit {0}
-  FieldsTold names schema table (named name node columns) place =
-      Tells names name (lookedAt table place)
-      × Told names schema table node (fieldNode schema place)
-      × FieldsTold names schema table columns (frameEnd schema place)
+  -- Of each of some fields: its name by its entry, its node behind its name, the next field behind both.
+  pub data FieldsTold (names : Dictionary) (schema table : List ℕ) : SchemaFields → (place : ℕ) → Type 0 where
+    noneTold : {place : ℕ} → FieldsTold names schema table noColumns place
+    fieldTold : {name : List ℕ} {node : Schema} {more : SchemaFields} {place : ℕ} → Tells names name (lookedAt table place)
+        → Told names schema table node (fieldNode schema place) → FieldsTold names schema table more (frameEnd schema place)
+        → FieldsTold names schema table (named name node more) place
 
 -- A table with one entry more: what it tells of a name.
 pub record Noted (names : Dictionary) (name : List ℕ) (place : ℕ) (before after : List ℕ) : Type 0 where

@@ -5,7 +5,7 @@ ghost use mathlib.Core.Bool.{true};
 ghost use mathlib.Core.Option.{some};
 ghost use mathlib.Core.Path.{_≡_};
 ghost use Prim.Native.Nat.{_/_, _≤_, _<_};
-ghost use lib.ListN.{length, getD, set};
+ghost use lib.ListN.{length, set};
 ghost use Rattle.paper.specs.Bounds.{mostNames, mostWalked};
 ghost use Rattle.paper.specs.Metadata.{namesIn};
 ghost use Rattle.paper.specs.Schemas.{Schema, schemaOf};

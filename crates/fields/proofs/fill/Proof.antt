@@ -1,60 +1,59 @@
+-- `fill`: the fields in front of the place are told.
+use Prim.Native.Nat.{_-_}
+use native.Mathlib.Omega.{arith}
+use borrow.Author.Needs.{needs}
+use lib.ListN.{length}
+use Rattle.paper.specs.Metadata.{namesIn}
+use Rattle.schemas.proofs.WalkLaws.{next-forward}
+use Rattle.fields.proofs.FillLaws.{Scanned, scan-start, field-first, field-entry, scan-field, node-first, scan-node, scan-done}
 use Rattle.fields.proofs.fill.Statement.{statement}
 use Rattle.fields.proofs.fill.Tie as tie
-use Rattle.fields.proofs.fill.Reads as reads
-use Rattle.fields.proofs.fill.Lts as lts
-use Rattle.fields.proofs.note.Reads as note-reads
-use Rattle.fields.proofs.onward.Reads as onward-reads
-use Rattle.schemas.proofs.field_node.Reads as field-node-reads
 
 abbrev Inv-loop : tie.InvT-loop
-Inv-loop schema metadata names order table₀ place₀ table place = ?
+Inv-loop schema metadata names order table₀ place₀ table place = Scanned (namesIn metadata) schema table₀ table place
 
 abbrev μ-loop : tie.MeasureT-loop
-μ-loop schema metadata names order table₀ place₀ table place = ?
+μ-loop schema metadata names order table₀ place₀ table place = length schema - place
 
--- src/lib.rt:94:5
-loop-holds : tie.Need-loop-holds Inv-loop μ-loop
-loop-holds c = ?
-
--- src/lib.rt:95:12
-shared-slice-read-if1 : tie.Need-shared-slice-read-if1 Inv-loop μ-loop
-shared-slice-read-if1 c = ?
-
--- src/lib.rt:96:13
+-- A field is entered, ..
 note-requires : tie.Need-note-requires Inv-loop μ-loop
-note-requires c κs = ?
+note-requires c κs =
+    let looped = c .before .before .before .before in
+    let pre = looped .before .before .before .before .before .pre in
+    let inside = c .before .before .before .loop-test .taken in
+    let tagged = c .before .if1 .taken in
+    (field-first (looped .loop .inv) inside tagged .named-in, field-entry (looped .loop .inv) inside tagged (pre .1), pre .2, pre .3, pre .4)
 
--- src/lib.rt:97:13
 field-node-requires : tie.Need-field-node-requires Inv-loop μ-loop
-field-node-requires c κs = ?
+field-node-requires c κs =
+    let tested = c .before .before .before .before in
+    let looped = tested .before .before .before in
+    field-first (looped .loop .inv) (tested .before .before .loop-test .taken) (tested .if1 .taken) .named-in
 
--- src/lib.rt:94:5
-loop-less : tie.Need-loop-less Inv-loop μ-loop
-loop-less c = ?
-
--- src/lib.rt:94:5
 loop-again : tie.Need-loop-again Inv-loop μ-loop
-loop-again c = ?
+loop-again c =
+    let tested = c .before .before .before .before .before in
+    let looped = tested .before .before .before in
+    let pre = looped .before .before .before .before .before .pre in
+    rw (c .field-node .ensures)
+    (scan-field (looped .loop .inv) (tested .before .before .loop-test .taken) (tested .if1 .taken) (pre .1) (c .before .before .before .note .ensures))
 
--- src/lib.rt:99:13
-onward-requires : tie.Need-onward-requires Inv-loop μ-loop
-onward-requires c κs = ?
+-- .. another frame is passed over.
+next-frame-requires : tie.Need-next-frame-requires Inv-loop μ-loop
+next-frame-requires c κs =
+    let looped = c .before .before .before in
+    node-first (looped .loop .inv) (c .before .before .loop-test .taken) (c .if1 .left) .room
 
--- src/lib.rt:94:5
 loop-less-2 : tie.Need-loop-less-2 Inv-loop μ-loop
-loop-less-2 c = ?
+loop-less-2 c =
+    let looped = c .before .before .before .before in
+    let start = looped .before .before .before .before .before in
+    omega (arith, c .next-frame .ensures, next-forward (start .args .schema .now) (looped .loop .place))
 
--- src/lib.rt:94:5
 loop-again-2 : tie.Need-loop-again-2 Inv-loop μ-loop
-loop-again-2 c = ?
-
--- src/lib.rt:89:1
-same-length : tie.Need-same-length Inv-loop μ-loop
-same-length c = ?
-
--- src/lib.rt:89:1
-returns : tie.Need-returns Inv-loop μ-loop
-returns c = ?
+loop-again-2 c =
+    let looped = c .before .before .before .before in
+    rw (c .next-frame .ensures) (scan-node (looped .loop .inv) (c .before .before .before .loop-test .taken) (c .before .if1 .left))
 
 pub fill-spec : {M : Type 1} → statement M
 fill-spec =
@@ -62,14 +61,14 @@ fill-spec =
     (tie.spec
     Inv-loop
     μ-loop
-    loop-holds
-    shared-slice-read-if1
+    (λ c. search (needs, scan-start))
+    (λ c. search needs)
     note-requires
     field-node-requires
-    loop-less
+    (λ c. search needs)
     loop-again
-    onward-requires
+    next-frame-requires
     loop-less-2
     loop-again-2
-    same-length
-    returns)
+    (λ c. c .before .loop .inv .size)
+    (λ c. search (needs, scan-done)))
