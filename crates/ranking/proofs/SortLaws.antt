@@ -20,6 +20,15 @@ use Rattle.order.proofs.OrderLaws.{before-total, before-transitive, before-asym
 use Rattle.paper.proofs.WordLaws.{never, and-both}
 use Rattle.ranking.proofs.HeldLaws.{or-more, held-first, held-append, held-either, held-below, below-held}
 
+-- Not to come before goes on from name to name.
+pub not-before-through : (a b c : List ℕ) → before b a ≡ false → before c b ≡ false → before c a ≡ false
+not-before-through a b c p q = go (before c a) refl (before a b) refl
+  where
+    go : (t : Bool) → before c a ≡ t → (u : Bool) → before a b ≡ u → t ≡ false
+    go false e u f = refl
+    go true e true f = never (sym (before-transitive c a b e f) ∙ q)
+    go true e false f = never (sym e ∙ ap (before c) (before-total a b f p) ∙ q)
+
 module _ (names : Dictionary) where
   -- ---- the ids of both
 
@@ -69,14 +78,6 @@ module _ (names : Dictionary) where
   abbrev NotBefore : ℕ → ℕ → Type 0
   NotBefore later earlier = before (getD names later []) (getD names earlier []) ≡ false
 
-  through : (a b c : List ℕ) → before b a ≡ false → before c b ≡ false → before c a ≡ false
-  through a b c p q = go (before c a) refl (before a b) refl
-    where
-      go : (t : Bool) → before c a ≡ t → (u : Bool) → before a b ≡ u → t ≡ false
-      go false e u f = refl
-      go true e true f = never (sym (before-transitive c a b e f) ∙ q)
-      go true e false f = never (sym e ∙ ap (before c) (before-total a b f p) ∙ q)
-
   -- .. nor does that of any of some.
   abbrev AllAfter : ℕ → List ℕ → Type 0
   AllAfter first ids = (id : ℕ) → holds id ids ≡ true → NotBefore id first
@@ -90,7 +91,7 @@ module _ (names : Dictionary) where
     where
       go : (x ≡ id) ⊎ (holds id ids ≡ true) → NotBefore id y
       go (inl is) = rw (← is) after
-      go (inr further) = through (getD names y []) (getD names x []) (getD names id []) after (all id further)
+      go (inr further) = not-before-through (getD names y []) (getD names x []) (getD names id []) after (all id further)
 
   all-merged : (x : ℕ) (xs ys : List ℕ) → AllAfter x xs → AllAfter x ys → AllAfter x (merged names xs ys)
   all-merged x xs ys first second id e = go (or-either (holds id xs) (holds id ys) (sym (merged-held id xs ys) ∙ e))

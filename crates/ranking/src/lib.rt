@@ -7,5 +7,8 @@ mod sorting;
 mod tables;
 
 pub use ranks::rank;
+pub use sorting::sort;
+pub use tables::id_at;
 pub use tables::input_of;
 pub use tables::normal_of;
+pub use tables::put_id;

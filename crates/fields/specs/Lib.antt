@@ -1,0 +1,2 @@
+-- Each schema field's id in a dictionary.
+pub mod Telling

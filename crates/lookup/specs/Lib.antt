@@ -1,0 +1,2 @@
+-- A name looked up in a dictionary.
+pub mod Looking
