@@ -44,7 +44,7 @@ node-none levels s from to e = rw e (go (onePiece (part s from to)))
     go none = refl
     go (some piece) = refl
 
-node-step : (levels : ℕ) (piece : Piece) → (levels ≡ 0 → ⊥) → nodeOf levels piece ≡ nodeBy (nodeOf (levels - 1)) (nodeTag (piece .tag)) (piece .body)
+pub node-step : (levels : ℕ) (piece : Piece) → (levels ≡ 0 → ⊥) → nodeOf levels piece ≡ nodeBy (nodeOf (levels - 1)) (nodeTag (piece .tag)) (piece .body)
 unfolding nodeOf
 node-step zero piece h = absurd (h refl)
 node-step (suc levels) piece h = let e : suc levels - 1 ≡ levels = omega arith in rw e

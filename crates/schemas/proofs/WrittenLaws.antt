@@ -63,6 +63,7 @@ module _ (s : List ℕ) (bytes : (i : ℕ) → at s i < 256) where
 
   mutual
     unfolding schemaBytes
+
     pub node-written : (node : Schema) (levels place : ℕ) → Stands levels s place node → part s place (frameEnd s place) ≡ schemaBytes node
     node-written leftoverOnly levels place stands =
         let here = leftover-stands stands in
