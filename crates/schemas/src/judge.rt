@@ -70,9 +70,6 @@ fn fields(levels: usize, s: &[u8], from: usize, to: usize) -> bool
     requires { ⌜ (from ≤ to) × (to ≤ length (now s)) ⌝ }
     ensures { λ r. ⌜ r ≡ isThere (objectIn levels (now (s .entry)) from to) ⌝ }
 {
-    if from == to {
-        return false;
-    }
     let mut last = from;
     let mut place = from;
     while place < to {
@@ -89,7 +86,7 @@ fn fields(levels: usize, s: &[u8], from: usize, to: usize) -> bool
         last = place;
         place = next;
     }
-    true
+    from != to
 }
 
 // One node fills a part of the schema, within so many levels.
