@@ -13,11 +13,11 @@ use Rattle.numbers.proofs.NumberLaws.{length-number-bytes, read-back}
 use Rattle.numbers.specs.Little.{numberBytes, numberAt}
 use Rattle.paper.specs.Framing.{Piece, piecesWithin, piecesOf, only, onePiece, frame}
 use Rattle.paper.specs.Limits.{mostLevels}
-use Rattle.paper.specs.Schemas.{Column, Schema, leftoverOnly, column, list, fields, SchemaFields, noColumns, named, columnOf, nodeTag, fieldParts, fieldNodes, nodeBy, nodeOf, schemaOf}
+use Rattle.paper.specs.Schemas.{Schema, leftoverOnly, column, list, fields, SchemaFields, noColumns, named, columnOf, nodeTag, fieldParts, fieldNodes, nodeBy, nodeOf, schemaOf}
 use Rattle.paper.specs.Words.{part, given, andThen}
 use Rattle.paper.proofs.WordLaws.{never}
 use Rattle.schemas.proofs.FramingLaws.{pieceThen, pieces-cons}
-use Rattle.schemas.proofs.GoodLaws.{GoodObject, good-level, good-column, good-element, good-object, good-field}
+use Rattle.schemas.proofs.GoodLaws.{good-level, good-column, good-element, good-object, good-field}
 use Rattle.schemas.proofs.NodeLaws.{node-step}
 use Rattle.schemas.specs.Written.{schemaBytes, fieldsBytes, someField, goodSchema, goodFields}
 
@@ -102,6 +102,7 @@ node-read node levels good = node-step levels (nodePiece node) (omega (arith, go
 
 mutual
   unfolding nodePiece fieldPieces nodeTag nodeBy columnOf onePiece only fieldNodes fieldParts pieceThen given andThen
+
   node-back : (node : Schema) (levels : ℕ) → goodSchema node levels ≡ true → length (schemaBytes node) < 65536 → nodeOf levels (nodePiece node) ≡ some node
   node-back leftoverOnly levels good fits = node-read leftoverOnly levels good
   node-back (column said) levels good fits = node-read (column said) levels good ∙ rw (good-column said levels good)

@@ -1,18 +1,17 @@
 -- The rules of a schema as a tree: going into a good one, and that a schema that is read is good.
-use mathlib.Core.Bool.{Bool, true, false, _&&_}
+use mathlib.Core.Bool.{Bool, true, _&&_}
 use mathlib.Core.List.{List}
 use mathlib.Core.Option.{some}
-use mathlib.Core.Path.{_≡_, refl, sym, ap, _∙_}
-use Prim.Native.Nat.{ℕ, zero, suc, _+_, _-_, _≤_, _<_}
-use native.Mathlib.Omega.{arith}
+use mathlib.Core.Path.{_≡_, refl, ap}
+use Prim.Native.Nat.{ℕ, _+_, _-_, _≤_}
 use borrow.Author.Tests.{le-leb, leb-true}
 use lib.Dec.{leb}
 use Rattle.paper.specs.Limits.{mostLevels}
 use Rattle.paper.specs.Metadata.{rising}
 use Rattle.paper.specs.Schemas.{Column, Schema, leftoverOnly, column, list, fields, SchemaFields, noColumns, named, columnNames, columnCode, schemaOf}
 use Rattle.paper.proofs.WordLaws.{and-both}
-use Rattle.schemas.proofs.FieldsStandLaws.{FirstField, first-field, FieldStands, field-stands}
-use Rattle.schemas.proofs.StandingLaws.{some-level, ColumnStands, column-stands, ListStands, list-stands, ObjectStands, object-stands, schema-stands}
+use Rattle.schemas.proofs.FieldsStandLaws.{FirstField, first-field, field-stands}
+use Rattle.schemas.proofs.StandingLaws.{some-level, column-stands, list-stands, object-stands, schema-stands}
 use Rattle.schemas.specs.Positions.{frameEnd, fieldNode, Stands, FieldsStand}
 use Rattle.schemas.specs.Written.{someField, goodSchema, goodFields}
 

@@ -1,11 +1,10 @@
 // A lent schema judged, node by node.
-ghost use mathlib.Core.Bool.{_&&_};
 ghost use mathlib.Core.Path.{_≡_};
 ghost use Prim.Native.Nat.{_≤_};
 ghost use lib.ListN.{length};
 ghost use Rattle.paper.specs.Schemas.{columnOf, schemaOf};
 ghost use Rattle.paper.specs.Words.{part, isThere};
-ghost use Rattle.schemas.specs.Positions.{frameEnd, fieldNode, taggedWithin, fieldWithin, followsAt, nodeIn, objectIn};
+ghost use Rattle.schemas.specs.Positions.{fieldNode, taggedWithin, fieldWithin, followsAt, nodeIn, objectIn};
 use crate::readers::field_name;
 use crate::readers::field_node;
 use crate::readers::frame_end;

@@ -8,5 +8,5 @@ pub kind-at-spec : {M : Type 1} → statement M
 kind-at-spec =
     tie.close
     (tie.spec (λ c. search needs) (λ c. search (needs, kind-leftover)) (λ c. search needs)
-    (λ c. c .before .before .before .before .pre .1 (c .before .if2 .taken)) (λ c. search (needs, kind-column))
+    (λ c. c .before .before .before .before .pre .code-there (c .before .if2 .taken)) (λ c. search (needs, kind-column))
     (λ c. search (needs, kind-list)) (λ c. search (needs, kind-fields)))
