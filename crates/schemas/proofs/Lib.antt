@@ -10,3 +10,4 @@ pub mod FieldsStandLaws
 pub mod GoodLaws
 pub mod WalkLaws
 pub mod WrittenLaws
+pub mod BackLaws

@@ -4,17 +4,17 @@ use mathlib.Core.Bool.{Bool, true, false, cond}
 use mathlib.Core.List.{List}
 use mathlib.Core.Logic.{_⊎_, inl, inr}
 use mathlib.Core.Option.{some}
-use mathlib.Core.Path.{_≡_, refl, sym, subst, _∙_}
+use mathlib.Core.Path.{_≡_, sym, subst, _∙_}
 use Prim.Native.Nat.{ℕ, _+_, _-_, _≤_, _<_}
 use native.Mathlib.Omega.{arith}
 use borrow.Author.Tests.{eq-eqb, ne-eqb}
 use lib.Dec.{eqb}
 use lib.ListN.{length}
 use Rattle.paper.specs.Limits.{mostLevels}
-use Rattle.paper.specs.Schemas.{Column, Schema, leftoverOnly, column, list, fields, SchemaFields, noColumns, named, schemaOf}
+use Rattle.paper.specs.Schemas.{Schema, leftoverOnly, column, list, fields, SchemaFields, noColumns, named, schemaOf}
 use Rattle.paper.specs.Words.{at}
 use Rattle.schemas.proofs.FieldsStandLaws.{FieldStands, field-stands, no-columns}
-use Rattle.schemas.proofs.StandingLaws.{LeftoverStands, leftover-stands, ColumnStands, column-stands, ListStands, list-stands, ObjectStands, object-stands, schema-stands}
+use Rattle.schemas.proofs.StandingLaws.{leftover-stands, column-stands, ListStands, list-stands, ObjectStands, object-stands, schema-stands}
 use Rattle.schemas.specs.Positions.{frameEnd, fieldNode, Stands, FieldsStand}
 use Rattle.schemas.specs.Walk.{frameNext, Frames, arrived, further}
 

@@ -1,7 +1,7 @@
 -- A good schema is its tree written: the framing is canonical.
 use mathlib.Core.List.{List, [], _∷_, _++_}
 use mathlib.Core.Option.{some}
-use mathlib.Core.Path.{_≡_, refl, sym, ap, _∙_}
+use mathlib.Core.Path.{_≡_, sym, ap, _∙_}
 use Prim.Native.Nat.{ℕ, zero, suc, _+_, _-_, _≤_, _<_}
 use native.Mathlib.Omega.{arith}
 use lib.ListN.{length}
@@ -10,12 +10,12 @@ use Rattle.numbers.proofs.NumberLaws.{bytes-back}
 use Rattle.numbers.specs.Little.{number, numberBytes, numberAt}
 use Rattle.paper.specs.Framing.{frame}
 use Rattle.paper.specs.Limits.{mostLevels}
-use Rattle.paper.specs.Schemas.{Column, Schema, leftoverOnly, column, list, fields, SchemaFields, noColumns, named, schemaOf}
+use Rattle.paper.specs.Schemas.{Schema, leftoverOnly, column, list, fields, SchemaFields, noColumns, named, schemaOf}
 use Rattle.paper.specs.Words.{at, part}
-use Rattle.schemas.proofs.FieldsStandLaws.{FieldStands, field-stands, no-columns}
+use Rattle.schemas.proofs.FieldsStandLaws.{field-stands, no-columns}
 use Rattle.schemas.proofs.FramingLaws.{length-part, part-cons, part-none}
-use Rattle.schemas.proofs.StandingLaws.{LeftoverStands, leftover-stands, ColumnStands, column-stands, ListStands, list-stands, ObjectStands, object-stands, schema-stands}
-use Rattle.schemas.specs.Positions.{frameEnd, pieceAt, fieldNode, fieldName, Stands, FieldsStand}
+use Rattle.schemas.proofs.StandingLaws.{leftover-stands, column-stands, list-stands, object-stands, schema-stands}
+use Rattle.schemas.specs.Positions.{frameEnd, pieceAt, fieldNode, Stands, FieldsStand}
 use Rattle.schemas.specs.Written.{schemaBytes, fieldsBytes}
 
 -- ---- a frame is its piece written
