@@ -3,3 +3,4 @@ pub mod VerdictLaws
 pub mod PartLaws
 pub mod PlaceLaws
 pub mod StepLaws
+pub mod HalfLaws

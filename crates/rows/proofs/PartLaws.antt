@@ -21,7 +21,7 @@ use Rattle.rows.specs.declared.parts.Parts.the-variants.{Empty, Leftover
 -- ---- the pieces of a body
 
 -- Bytes that are left have at least one piece, or are not framed.
-some-piece : (s : List ℕ) (place : ℕ) → place < length s → piecesOf (drop place s) ≡ some [] → ⊥
+pub some-piece : (s : List ℕ) (place : ℕ) → place < length s → piecesOf (drop place s) ≡ some [] → ⊥
 some-piece s place h e = let ended = pieces-end-is s place e in omega arith
 
 module _ (body : List ℕ) where
@@ -35,10 +35,10 @@ module _ (body : List ℕ) where
       let are : piecesOf body ≡ none = pieces-at body 0 (omega arith) ∙ rw e in rw are
 
   module _ (end : ℕ) (first : frameEnd body 0 ≡ some end) where
-    ends : (0 + 3 ≤ end) × (end ≤ length body)
+    pub ends : (0 + 3 ≤ end) × (end ≤ length body)
     ends = frame-fits body 0 end first
 
-    pieces-first : piecesOf body ≡ andThen (piecesOf (drop end body)) λ more. some (pieceIn body 0 end ∷ more)
+    pub pieces-first : piecesOf body ≡ andThen (piecesOf (drop end body)) λ more. some (pieceIn body 0 end ∷ more)
     unfolding piecesBy
     pieces-first = let fits = ends in pieces-at body 0 (omega arith) ∙ rw first
 
@@ -68,7 +68,7 @@ module _ (body : List ℕ) where
           let behind : piecesOf (drop end body) ≡ none = pieces-at body end more ∙ rw e in rw (pieces-first, behind)
 
       module _ (last : ℕ) (second : frameEnd body end ≡ some last) where
-        pieces-second : piecesOf body
+        pub pieces-second : piecesOf body
             ≡ andThen (andThen (piecesOf (drop last body)) λ rest. some (pieceIn body end last ∷ rest)) λ more. some (pieceIn body 0 end ∷ more)
         unfolding piecesBy
         pieces-second = pieces-first ∙ rw (pieces-at body end more, second)

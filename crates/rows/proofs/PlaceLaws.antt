@@ -18,6 +18,7 @@ use Rattle.paper.specs.Schemas.{Schema}
 use Rattle.paper.specs.Words.{at, part, given, andThen}
 use Rattle.frames.proofs.FrameLaws.{OneFrame, one-frame, TwoFrames, two-frames, pieces-end-is, pieces-ended}
 use Rattle.rows.proofs.VerdictLaws.{place-under, place-lawful}
+use Rattle.rows.specs.Leftovers.{leftBroken, besideBroken, withLeft}
 use Rattle.rows.specs.Parts.{partBy, partsIn, partsBy, partsOf}
 use Rattle.rows.specs.Verdicts.{verdictOf, typedUnder, typedLawful, typedVerdict, placeVerdict, brokenIf}
 use Rattle.rows.specs.declared.parts.Parts.the-variants.{Empty, Leftover, Typed as TypedPart, Both, Unframed}
@@ -104,19 +105,6 @@ module _ (body : List ℕ) where
       go (some (first ∷ second ∷ third ∷ more)) e = λ left right. unfold andThen in unfold placeParts in rw e
 
 -- ---- what a place comes to
-
--- A leftover alone, under a node: rule d.
-unfoldable pub leftBroken : Schema → Doc → Bool
-leftBroken node d = (isObject d && isFieldsNode node) || (isArray d && isListNode node)
-
--- A leftover beside something typed, under a node: rules a, b and c.
-unfoldable pub besideBroken : Schema → Doc → Bool
-besideBroken node d = not (isFieldsNode node) || (not (isObject d) || hasAny (namedBy node) d)
-
--- What a leftover comes to, by what reads it; what comes of it goes on.
-unfoldable pub withLeft : Option Doc → (Doc → Verdict) → Verdict
-withLeft none next = Unparsed
-withLeft (some d) next = next d
 
 -- ---- the rules, by what a place holds
 

@@ -2,3 +2,5 @@
 pub mod Verdicts
 pub mod Parts
 pub mod Frames
+pub mod Halves
+pub mod Leftovers
