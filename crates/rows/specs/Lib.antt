@@ -4,3 +4,4 @@ pub mod Parts
 pub mod Frames
 pub mod Halves
 pub mod Leftovers
+pub mod Walking
