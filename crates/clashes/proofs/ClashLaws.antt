@@ -2,8 +2,8 @@
 use mathlib.Core.Bool.{Bool, true, false, _&&_}
 use mathlib.Core.List.{List}
 use mathlib.Core.Option.{some}
-use mathlib.Core.Path.{_≡_, sym, ap, _∙_}
-use Prim.Native.Nat.{ℕ, _+_, _*_, _≤_, _<_}
+use mathlib.Core.Path.{_≡_, sym, _∙_}
+use Prim.Native.Nat.{ℕ, _+_, _*_, _≤_}
 use lib.ListN.{length}
 use Rattle.containers.specs.Layouts.{Container, LaidOut}
 use Rattle.containers.specs.declared.shape.Layout.{Layout}
@@ -20,7 +20,7 @@ use Rattle.paper.specs.declared.Reading.the-variants.{ObjectHead}
 use Rattle.paper.specs.declared.Reading.{Reading}
 use Rattle.paths.specs.Places.{LawfulIn}
 use Rattle.schemas.specs.Positions.{FieldsStand}
-use Rattle.clashes.specs.Shared.{shared, SomeFields}
+use Rattle.clashes.specs.Shared.{SomeFields}
 use Rattle.boxes.proofs.MemberLaws.{made-of}
 use Rattle.clashes.proofs.LeftKindLaws.{no-object}
 use Rattle.clashes.proofs.MergeLaws.{Said}

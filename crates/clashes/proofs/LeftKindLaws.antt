@@ -2,7 +2,7 @@
 use mathlib.Core.Bool.{Bool, true, false, cond, not, _&&_, _||_}
 use mathlib.Core.List.{List}
 use mathlib.Core.Option.{Option, none, some, Option·some-injective as some-injective}
-use mathlib.Core.Path.{_≡_, refl, sym, ap, _∙_}
+use mathlib.Core.Path.{_≡_, refl, sym, _∙_}
 use Prim.Native.Nat.{ℕ, zero, suc, _+_, _/_, _%_, _<_}
 use native.Mathlib.Omega.{arith}
 use borrow.Author.Tests.{eqb-true, eq-eqb, ne-eqb}
@@ -13,7 +13,7 @@ use Rattle.paper.specs.Meaning.{boolean, payload, Doc, null, scalar, array, obj
 use Rattle.paper.specs.Metadata.{Dictionary}
 use Rattle.paper.specs.Rules.{isObject, isArray, hasAny}
 use Rattle.paper.specs.Values.{membersOf, memberDocs, elementsOf, elementDocs, areaOf, idsOf, namesAt, primitiveMeaning, meaningBy, meaningOf}
-use Rattle.paper.specs.Words.{at, given, isThere}
+use Rattle.paper.specs.Words.{at, isThere}
 use Rattle.paper.specs.declared.Reading.the-variants.{Fixed, Prefixed, Short, ObjectHead, ArrayHead, Nothing}
 use Rattle.paper.specs.declared.Reading.{Reading}
 use Rattle.clashes.specs.Kinds.{leftKind}

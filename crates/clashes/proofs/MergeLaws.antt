@@ -1,7 +1,7 @@
 -- One walk along a run of ids and the fields of a schema, whose names rise: where it stands, what is left of both decides.
 use mathlib.Core.Bool.{Bool, true, false}
 use mathlib.Core.List.{List, [], _∷_}
-use mathlib.Core.Path.{_≡_, refl, sym, ap, subst, _∙_}
+use mathlib.Core.Path.{_≡_, refl, sym, ap, _∙_}
 use Prim.Native.Nat.{ℕ, _+_, _-_, _*_, _≤_, _<_}
 use native.Mathlib.Omega.{arith}
 use lib.ListN.{length, getD, drop}
@@ -10,7 +10,7 @@ use Rattle.order.specs.Before.{orderOf}
 use Rattle.order.specs.declared.Order.the-variants.{Less, Equal, Greater}
 use Rattle.order.specs.declared.Order.{Order}
 use Rattle.paper.specs.Metadata.{Dictionary, rising}
-use Rattle.paper.specs.Schemas.{SchemaFields, noColumns, named, columnNames}
+use Rattle.paper.specs.Schemas.{SchemaFields, columnNames}
 use Rattle.paper.specs.Values.{namesAt}
 use Rattle.paper.specs.Words.{numbers, allBelow}
 use Rattle.schemas.specs.Positions.{frameEnd, fieldNode, fieldName, FieldsStand}
