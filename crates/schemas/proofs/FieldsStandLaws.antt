@@ -8,6 +8,7 @@ use Prim.Native.Nat.{ℕ, _+_, _≤_, _<_}
 use native.Mathlib.Omega.{arith}
 use borrow.Author.Tests.{leb-true, leb-false}
 use lib.Dec.{leb}
+use lib.ListN.{length}
 use Rattle.paper.specs.Metadata.{rising}
 use Rattle.paper.specs.Schemas.{Schema, SchemaFields, noColumns, named, columnNames}
 use Rattle.paper.specs.Words.{at, andThen}
@@ -102,3 +103,15 @@ module _ {levels : ℕ} {s : List ℕ} {place to : ℕ} where
       subst (λ (x : List ℕ). FieldStands levels s place to x node more) n
       (subst (λ (x : Schema). FieldStands levels s place to (first .name) x more) d
       (subst (λ (x : SchemaFields). FieldStands levels s place to (first .name) (first .node) x) m (first .stands)))
+
+  -- What the readers of a field ask.
+  module _ {name : List ℕ} {node : Schema} {more : SchemaFields} (here : FieldStands levels s place to name node more) where
+    pub field-framed : frameEnd s place ≤ length s
+    field-framed = omega (arith, here .frame-in, here .behind .within)
+
+    pub field-named : fieldNode s place ≤ length s
+    field-named = omega (arith, here .fills, field-framed)
+
+  -- Fields are one list at most.
+  pub one-list : {columns others : SchemaFields} → FieldsStand levels s place to columns → FieldsStand levels s place to others → columns ≡ others
+  one-list stand also = let are = stand .are in let also-are = also .are in cc
