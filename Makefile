@@ -1,67 +1,91 @@
-# make demo: sets up and answers the sample lots.  make test: the whole gate.
+# make demo: proves what the demonstration needs, and answers the sample lots.  make test: the whole gate.
 # make definitions: the definitions run on cases with answers.
 # make compare N=.. SEED=..: the proved library against the second program.  make bench: their speed side by side.
 SHELL := /bin/bash
 .SHELLFLAGS := -euo pipefail -c
-.PHONY: demo test toolchain layout second prove compared definitions library compare bench clean
+.PHONY: demo test tools toolchain layout second prove library compared compare bench definitions clean
+.NOTPARALLEL:
 
-# What the gate printed, kept so that its verdict can be its last line.
-LOG := target-gate.log
+# What rt ci printed, kept outside target/, which it removes, so that its verdict can be the gate's last line.
+GATE := target-gate.log
+# What another command of rt printed.
+SAID := target/said.log
 N ?= 20000
 SEED ?= 1
 CARGO := cargo --offline --quiet
 # The operations that the proved library has.
 OPERATIONS := $(shell sed -n 's/^default = \[\(.*\)\]/\1/p' compare/Cargo.toml | tr -d '",')
 
-demo: toolchain
-	@rt check demo > $(LOG) || { tail -n 40 $(LOG); exit 1; }
-	@target/bin/demo
+# $(call told,COMMAND): a command of rt, which says each crate as it is proved and, by name, what is not.
+told = mkdir -p target; $(1) 2>&1 | tee $(SAID) \
+  | { grep --line-buffered -E '^rt: (ok|FAILED|.* proved \([0-9]|.*NOT PROVED|.*run FAILED)' || true; } \
+  || { echo "$(1) failed; all that it said is in $(SAID)"; exit 1; }
+# $(call tested,FOLDER): a program's own tests, their result, and all that they say if they fail.
+tested = cd $(1); mkdir -p target; $(CARGO) test > target/tests.log 2>&1 || { cat target/tests.log; exit 1; }; \
+  grep -E '^(test result|warning)' target/tests.log
 
-test: toolchain layout second prove compared
-	@tail -n 1 $(LOG)
+# What each command needs.
+demo toolchain layout prove: NEEDED := rt
+definitions: NEEDED := rt python3
+second: NEEDED := cargo rustc cc
+library compared compare bench: NEEDED := rt cargo rustc cc
+test: NEEDED := rt cargo rustc cc python3
+
+demo: tools toolchain
+	@$(call told,rt check demo)
+	@target/bin/demo < crates/demo/stdin
+
+test: tools toolchain layout second prove definitions compared
+	@tail -n 1 $(GATE)
+
+# What a command needs and is not on the path, by name.
+tools:
+	@missing=0; for tool in $(NEEDED); do if ! command -v $$tool > /dev/null; then missing=1; case $$tool in \
+	  rt) echo "missing: rt, of the Rattle kit that TOOLCHAIN names: $$(head -n 1 TOOLCHAIN)" ;; \
+	  *) echo "missing: $$tool" ;; esac; fi; done; exit $$missing
 
 # The toolchain that the proofs were made with is named in TOOLCHAIN; another one is said, and tried.
-toolchain:
+toolchain: tools
 	@if [ "$$(rt version)" != "$$(cat TOOLCHAIN)" ]; then \
 	  echo "toolchain: '$$(rt version)' is at hand, TOOLCHAIN names '$$(cat TOOLCHAIN)'"; fi
 
-layout:
+layout: tools
 	@rt fmt --check
 
 # The second program: its own tests, every shared case, and the documents in the published layout.
-second:
-	@cd second && $(CARGO) test 2>&1 | grep -E '^(test result|error|warning|failures)|FAILED|panicked'
+second: tools
+	@$(call tested,second)
 	@cd second && $(CARGO) build --release
 	@for file in vectors/*.txt; do second/target/release/second check-vectors $$file; done
 	@second/target/release/second published published
 
 # Every crate proved from nothing, every must-fail edit refused, every program run.
-prove:
-	@rt ci 2>&1 | tee $(LOG)
-	@tail -n 1 $(LOG) | grep -qE '^[0-9]+ passed, 0 failed$$'
+prove: tools
+	@rt ci 2>&1 | tee $(GATE)
+	@tail -n 1 $(GATE) | grep -qE '^[0-9]+ passed, 0 failed$$'
 
 # The static library of the proved operations, and the program that compares it with the second one.
-library:
-	@rt staticlib register > target/staticlib.log 2>&1 || { tail -n 40 target/staticlib.log; exit 1; }
+library: tools
+	@$(call told,rt staticlib register)
 	@cd compare && $(CARGO) build --release
 
 # The comparison's own tests, a smaller run for each operation, and every shared case. Each operation must say its line.
-compared: library
-	@cd compare && $(CARGO) test 2>&1 | grep -E '^(test result|error|warning|failures)|FAILED|panicked'
+compared: tools library
+	@$(call tested,compare)
 	@for op in $(OPERATIONS); do compare/target/release/compare run --count 2000 --seed $(SEED) --op $$op | tee target/compare.log; \
 	  grep -qE "^$$op: [1-9][0-9]* cases, 0 differences$$" target/compare.log; done
 	@for file in vectors/*.txt; do compare/target/release/compare vectors $$file | grep agree; done
 
-compare: library
+compare: tools library
 	@compare/target/release/compare run --count $(N) --seed $(SEED)
 
-bench: library
+bench: tools library
 	@compare/target/release/compare bench
 
 # CASES is a file of cases; without one, the shared small cases and the sample lots are run.
-definitions:
-	@rt check paper > $(LOG) || { tail -n 40 $(LOG); exit 1; }
+definitions: tools
+	@$(call told,rt check paper)
 	@for file in $(or $(CASES),vectors/lots.txt vectors/small.txt); do echo "$$file"; tools/definitions.py $$file; done
 
 clean:
-	@rm -rf target second/target compare/target $(LOG)
+	@rm -rf target second/target compare/target $(GATE)

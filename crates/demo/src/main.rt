@@ -131,7 +131,7 @@ fn normalise(
 // A signed number, by its two's complement.
 fn say_signed(z: i64) {
     say(b": ");
-    let n = numbers::unsigned(z);
+    let n = signed::unsigned(z);
     if n < 9223372036854775808 {
         say_number(n);
     } else {

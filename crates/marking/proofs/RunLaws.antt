@@ -9,7 +9,7 @@ use Rattle.marking.specs.Ids.{markIds}
 use Rattle.numbers.specs.Little.{numberAt}
 use Rattle.paper.specs.Words.{numbers, allBelow}
 use Rattle.dictionary.proofs.NumbersRunLaws.{run-length, below-at}
-use Rattle.values.proofs.RunLaws.{Standing, standing-start, standing-next, run-next, run-here, run-ended}
+use Rattle.containers.proofs.RunLaws.{Standing, standing-start, standing-next, run-next, run-here, run-ended}
 
 -- After i ids.
 pub record RunSeen (ids used₀ used : List ℕ) (width count place i : ℕ) : Type 0 where

@@ -54,7 +54,7 @@ fn child(levels: usize, readings: &[u8], area: &[u8], start: usize, used: &mut [
     if area[start] % 4 < 2 {
         return;
     }
-    let Extent::Size(size) = values::child_extent(readings, area, start) else {
+    let Extent::Size(size) = containers::child_extent(readings, area, start) else {
         return;
     };
     let end = start + size;
@@ -74,7 +74,7 @@ fn children(
     requires { ⌜ Readings (now readings) × MarkableInside levels (now s) counted id width (length (now used)) ⌝ }
     ensures { λ _. ⌜ now (used .exit) ≡ markIds (now (used .entry)) (idsInside (idsIn levels) (areaOf counted id width (now (s .entry))) (childrenAt (areaOf counted id width (now (s .entry))) (startsOf counted id width (now (s .entry))))) ⌝ }
 {
-    let l = values::layout_of(s, counted, id, width);
+    let l = containers::layout_of(s, counted, id, width);
     let from = l.area;
     let at = l.starts;
     let count = l.count;
@@ -101,7 +101,7 @@ pub fn mark(levels: usize, readings: &[u8], s: &[u8], used: &mut [u8])
         Reading::Prefixed { code: _ } => {}
         Reading::Short { size: _ } => {}
         Reading::ObjectHead { count, id, offset } => {
-            let l = values::layout_of(s, count, id, offset);
+            let l = containers::layout_of(s, count, id, offset);
             let at = 1 + count;
             mark_run(&s[at..], id, l.count, used);
             children(levels - 1, readings, s, count, id, offset, used);

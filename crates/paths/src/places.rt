@@ -9,15 +9,15 @@ ghost use Rattle.paper.specs.Metadata.{namesIn};
 ghost use Rattle.paper.specs.Values.{areaOf, startsOf, idsOf, namesAt, childrenAt, membersOf, elementsOf};
 ghost use Rattle.paper.specs.Paths.{childNamed, childNumber};
 ghost use Rattle.dictionary.specs.Judging.{Opened};
-ghost use Rattle.values.specs.Layouts.{Container};
+ghost use Rattle.containers.specs.Layouts.{Container};
 ghost use Rattle.paths.specs.Places.{placeOf, positionIn};
+use containers::child_extent;
+use containers::layout_of;
 use dictionary::InputId;
 use dictionary::Names;
 use dictionary::input_id_at;
 use heads::Extent;
 use order::Order;
-use values::child_extent;
-use values::layout_of;
 
 // Where a child is, as a part of the value area.
 pub enum Place {

@@ -4,6 +4,7 @@ ghost use mathlib.Core.List.{_++_};
 ghost use mathlib.Core.Path.{_≡_};
 ghost use Prim.Native.Nat.{_+_, _≤_};
 ghost use lib.ListN.{length, take, drop};
+ghost use Rattle.paper.specs.Bounds.{mostNames};
 ghost use Rattle.paper.specs.Metadata.{namesIn, rising};
 ghost use Rattle.paper.specs.Values.{namesAt};
 ghost use Rattle.paper.specs.Words.{allBelow};
@@ -125,7 +126,7 @@ fn sort_by(metadata: &[u8], names: Names, ids: &mut [u16], spare: &mut [u16])
 
 // Sorts ids by their names. The spare room goes by their count, so that few ids do not pay for many.
 pub fn sort(metadata: &[u8], names: Names, ids: &mut [u16])
-    requires { ⌜ Opened (now metadata) names × (allBelow (names .count) (now ids) ≡ true) × (length (now ids) ≤ 16384) ⌝ }
+    requires { ⌜ Opened (now metadata) names × (allBelow (names .count) (now ids) ≡ true) × (length (now ids) ≤ mostNames) ⌝ }
     ensures { λ _. ⌜ Sorted (namesIn (now (metadata .entry))) (now (ids .entry)) (now (ids .exit)) ⌝ }
 {
     if ids.len() <= 64 {

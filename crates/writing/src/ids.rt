@@ -4,6 +4,7 @@ ghost use mathlib.Core.Bool.{true};
 ghost use Prim.Native.Nat.{_+_, _*_, _≤_, max};
 ghost use lib.ListN.{length};
 ghost use Rattle.numbers.specs.Little.{numberBytes, putAt};
+ghost use Rattle.paper.specs.Bounds.{mostWalked};
 ghost use Rattle.paper.specs.Normal.{largest, numbersBytes};
 ghost use Rattle.paper.specs.Words.{numbers, allBelow};
 ghost use Rattle.writing.specs.Ends.{EndsAt};
@@ -21,7 +22,7 @@ fn larger(a: NormalId, b: NormalId) -> NormalId
 
 // The largest of the normal ids of the ids that stand one after another, so many; 0 of none.
 pub fn largest_of(ranks: &[u16], ids: &[u8], id: usize, count: usize) -> NormalId
-    requires { ⌜ (count * id ≤ length (now ids)) × (1 ≤ id) × (id ≤ 4) × (count ≤ 65536) × (allBelow (length (now ranks)) (numbers id count (now ids)) ≡ true) ⌝ }
+    requires { ⌜ (count * id ≤ length (now ids)) × (1 ≤ id) × (id ≤ 4) × (count ≤ mostWalked) × (allBelow (length (now ranks)) (numbers id count (now ids)) ≡ true) ⌝ }
     ensures { λ r. ⌜ r .0 ≡ largest (ranksAt (now (ranks .entry)) (numbers id count (now (ids .entry)))) ⌝ }
 {
     let mut most = NormalId(0);
@@ -56,7 +57,7 @@ pub fn write_ids(
     out: &mut [u8],
     end: usize,
 ) -> usize
-    requires { ⌜ (count * id ≤ length (now ids)) × (1 ≤ id) × (id ≤ 4) × (count ≤ 65536) × (allBelow (length (now ranks)) (numbers id count (now ids)) ≡ true) × (1 ≤ width) × (width ≤ 4) × (count * width ≤ end) × (end ≤ length (now out)) ⌝ }
+    requires { ⌜ (count * id ≤ length (now ids)) × (1 ≤ id) × (id ≤ 4) × (count ≤ mostWalked) × (allBelow (length (now ranks)) (numbers id count (now ids)) ≡ true) × (1 ≤ width) × (width ≤ 4) × (count * width ≤ end) × (end ≤ length (now out)) ⌝ }
     ensures { λ r. ⌜ EndsAt (numbersBytes width (ranksAt (now (ranks .entry)) (numbers id count (now (ids .entry))))) (now (out .entry)) (now (out .exit)) end r ⌝ }
 {
     let start = end - count * width;

@@ -34,7 +34,6 @@ unfolding readings
 value-requires c κs = (c .before .before .before .before .before .before .before .before .before .pre .0, readings-all, search (needs, fills), omega (arith, c .before .before .before .before .before .before .before .before .before .pre .1))
 
 returns-3 : tie.Need-returns-3
-unfolding mostLevels
 returns-3 c = c .value .ensures
 
 pub lawful-value-spec : {M : Type 1} → statement M

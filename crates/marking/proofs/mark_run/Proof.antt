@@ -2,7 +2,7 @@
 use Prim.Native.Nat.{_-_}
 use borrow.Author.Needs.{needs}
 use Rattle.marking.proofs.RunLaws.{RunSeen, run-start, run-inside, run-marked, run-done}
-use Rattle.values.proofs.RunLaws.{standing-there, standing-fits}
+use Rattle.containers.proofs.RunLaws.{standing-there, standing-fits}
 use Rattle.marking.proofs.mark_run.Statement.{statement}
 use Rattle.marking.proofs.mark_run.Tie as tie
 

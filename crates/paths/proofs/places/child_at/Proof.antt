@@ -2,7 +2,7 @@
 use borrow.Author.Needs.{needs}
 use Rattle.heads.proofs.TableLaws.{readings, readings-all}
 use Rattle.paths.proofs.PlaceLaws.{child-past, child-fits, child-asks, child-lost, child-found}
-use Rattle.values.proofs.LayoutLaws.{starts-in}
+use Rattle.containers.proofs.LayoutLaws.{starts-in}
 use Rattle.paths.proofs.places.child_at.Statement.{statement}
 use Rattle.paths.proofs.places.child_at.Tie as tie
 

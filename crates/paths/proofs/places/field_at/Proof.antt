@@ -1,7 +1,7 @@
 -- `field_at`: the child of a name is the one of the name's position among the ids.
 use borrow.Author.Needs.{needs}
 use Rattle.paths.proofs.PlaceLaws.{field-asks, members-there, field-is}
-use Rattle.values.proofs.LayoutLaws.{ids-in}
+use Rattle.containers.proofs.LayoutLaws.{ids-in}
 use Rattle.paths.proofs.places.field_at.Statement.{statement}
 use Rattle.paths.proofs.places.field_at.Tie as tie
 

@@ -4,7 +4,7 @@ use borrow.Author.Needs.{needs}
 use Rattle.paper.specs.Metadata.{namesIn}
 use Rattle.dictionary.proofs.DictionaryLaws.{opened-count}
 use Rattle.paths.proofs.PositionLaws.{PositionSeen, position-start, id-below, position-here, position-next, position-none}
-use Rattle.values.proofs.RunLaws.{standing-there, standing-fits}
+use Rattle.containers.proofs.RunLaws.{standing-there, standing-fits}
 use Rattle.paths.proofs.places.position_of.Statement.{statement}
 use Rattle.paths.proofs.places.position_of.Tie as tie
 

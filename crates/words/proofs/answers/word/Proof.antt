@@ -28,7 +28,6 @@ add-result-2 : tie.Need-add-result-2
 add-result-2 c = let small = flag-small (c .args .present) in omega arith
 
 returns : tie.Need-returns
-unfolding word
 returns c = rw (flag (c .args .present))
 
 pub word-spec : {M : Type 1} → statement M

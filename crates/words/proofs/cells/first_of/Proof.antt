@@ -5,7 +5,7 @@ use lib.IntN.{ℤ}
 use mir.Facts.{toZ-ofZ}
 use mir.Syntax.{w64}
 use Rattle.numbers.specs.Little.{number}
-use Rattle.numbers.specs.Signed.{signedBytes}
+use Rattle.signed.specs.Signed.{signedBytes}
 use Rattle.words.proofs.BoundaryLaws.{flag}
 use Rattle.words.proofs.cells.first_of.Statement.{statement}
 use Rattle.words.proofs.cells.first_of.Tie as tie

@@ -2,7 +2,7 @@
 use borrow.Author.Needs.{needs}
 use Prim.Native.Nat.{_-_}
 use Rattle.writing.proofs.IdLaws.{LargestSeen, id-inside, largest-start, largest-next, largest-done}
-use Rattle.values.proofs.RunLaws.{standing-there, standing-fits}
+use Rattle.containers.proofs.RunLaws.{standing-there, standing-fits}
 use Rattle.writing.proofs.ids.largest_of.Statement.{statement}
 use Rattle.writing.proofs.ids.largest_of.Tie as tie
 

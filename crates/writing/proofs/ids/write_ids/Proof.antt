@@ -2,7 +2,7 @@
 use borrow.Author.Needs.{needs}
 use Prim.Native.Nat.{_-_}
 use Rattle.writing.proofs.IdLaws.{IdsSeen, id-inside, ids-start, to-there, to-fits, ids-next, ids-done}
-use Rattle.values.proofs.RunLaws.{standing-there, standing-fits}
+use Rattle.containers.proofs.RunLaws.{standing-there, standing-fits}
 use Rattle.writing.proofs.ids.write_ids.Statement.{statement}
 use Rattle.writing.proofs.ids.write_ids.Tie as tie
 
