@@ -15,13 +15,14 @@ use lib.Seq.{take-all}
 use Rattle.boxes.specs.Sides.{sideBy}
 use Rattle.boxes.specs.declared.Side.the-variants.{Double, Nothing}
 use Rattle.numbers.specs.Little.{numberAt}
+use Rattle.paper.proofs.MeaningLaws.{prefixedDoc, string-is, prefixed-is}
 use Rattle.paper.specs.Boxes.{doubleIn, doubleOf, boxOf}
 use Rattle.paper.specs.FirstBytes.{readingOf, kindReading, primitiveReading, payloadSizes, lengthPrefixed}
 use Rattle.paper.specs.Meaning.{boolean, payload, text, Doc, null, scalar, array, object}
 use Rattle.paper.specs.Metadata.{Dictionary}
 use Rattle.paper.specs.Operations.{boxReadBy}
 use Rattle.paper.specs.Refusals.{reached}
-use Rattle.paper.specs.Values.{extentBy, membersOf, memberDocs, elementsOf, elementDocs, areaOf, idsOf, namesAt, primitiveMeaning, prefixedMeaning, meaningBy, meaningOf, whole}
+use Rattle.paper.specs.Values.{extentBy, membersOf, memberDocs, elementsOf, elementDocs, areaOf, idsOf, namesAt, primitiveMeaning, meaningBy, meaningOf, whole}
 use Rattle.paper.specs.Words.{at, given, isThere}
 use Rattle.paper.specs.declared.BoxAnswer.the-variants.{Absent}
 use Rattle.paper.specs.declared.Reading.the-variants.{Fixed, Prefixed, Short, ObjectHead, ArrayHead, Nothing as NoReading}
@@ -89,10 +90,10 @@ primitive-none (suc (suc (suc more))) p {d} e =
     let told = given-some (not (leb 8 type && leb type 10) || leb (at p 0) 38) (some (scalar (payload type p))) e in
     rw (← some-injective (scalar (payload type p)) d (told .1)) (λ h. rw (ne-eqb type 7 h), refl)
 
-prefixed-none : (string : Bool) (code : ℕ) (p : List ℕ) {d : Doc} → (code ≡ 7 → ⊥) → prefixedMeaning string code p ≡ d → (doubleOf d ≡ none) × (boxOf d ≡ none)
-unfolding prefixedMeaning doubleOf doubleIn boxOf given
-prefixed-none true code p h e = rw (← e) (refl, refl)
-prefixed-none false code p h e = rw (← e, ne-eqb code 7 h) (refl, refl)
+prefixed-none : (string : Bool) (code : ℕ) (p : List ℕ) {d : Doc} → (code ≡ 7 → ⊥) → d ≡ prefixedDoc string code p → (doubleOf d ≡ none) × (boxOf d ≡ none)
+unfolding doubleOf doubleIn boxOf given
+prefixed-none true code p h e = rw e (refl, refl)
+prefixed-none false code p h e = rw (e, ne-eqb code 7 h) (refl, refl)
 
 none-by : (s : List ℕ) (names : Dictionary) (inner : List ℕ → Option Doc) {d : Doc} (r : Reading) → readingOf (at s 0) ≡ r
     → meaningBy inner names r s ≡ some d → NoDouble (at s 0) r d
@@ -102,11 +103,11 @@ none-by s names inner (Fixed code size) e f =
     record { double = λ other. told .0 (λ is. other (double-first (at s 0) e is)); box = λ h. told .1 }
 none-by s names inner {d} (Prefixed code) e f =
     let sizes = prefixed-sizes (at s 0) e in
-    let told = prefixed-none (eqb code 16) code (drop 5 s) (λ is. omega arith) (some-injective _ d f) in
+    let told = prefixed-none (eqb code 16) code (drop 5 s) (λ is. omega arith) (prefixed-is (eqb code 16) code (drop 5 s) f) in
     record { double = λ other. told .0; box = λ h. told .1 }
 none-by s names inner {d} (Short size) e f =
-    let is = some-injective (scalar (text (drop 1 s))) d f in
-    record { double = λ other. rw (← is); box = λ h. rw (← is) }
+    let is = string-is (drop 1 s) f in
+    record { double = λ other. rw is; box = λ h. rw is }
 none-by s names inner {d} (ObjectHead c i w) e f =
     let members = then-some (membersOf names c i w s) _ f in
     let docs = then-some (memberDocs inner (areaOf c i w s) (namesAt names (idsOf c i s)) (members .0)) _ (members .2) in

@@ -9,15 +9,15 @@ use Rattle.paper.specs.FirstBytes.{readingOf}
 use Rattle.paper.specs.Meaning.{Doc, object, Fields, noFields, field}
 use Rattle.paper.specs.Metadata.{Dictionary, rising}
 use Rattle.paper.specs.Paths.{childNamed}
-use Rattle.paper.specs.Shredding.{fieldAt}
+use Rattle.paper.specs.Standing.{fieldAt}
 use Rattle.paper.specs.Values.{Child, childBytes, childrenAt, everyByteOnce, areaOf, startsOf, idsOf, namesAt, membersOf, memberDocs, meaningBy, meaningOf}
 use Rattle.paper.specs.Words.{at, andThen, isThere, allBelow, same}
 use Rattle.paper.specs.declared.Reading.the-variants.{ObjectHead}
 use Rattle.boxes.proofs.DoubleLaws.{meant}
 use Rattle.paper.proofs.WordLaws.{never, given-some, then-some, some-there}
-use Rattle.values.proofs.ChildLaws.{SizedIn, children-sized}
-use Rattle.values.proofs.CoverLaws.{AllWithin}
-use Rattle.values.proofs.WalkLaws.{all-within}
+use Rattle.containers.proofs.ChildLaws.{SizedIn, children-sized}
+use Rattle.containers.proofs.CoverLaws.{AllWithin}
+use Rattle.containers.proofs.WalkLaws.{all-within}
 
 -- ---- a name among the names of children
 

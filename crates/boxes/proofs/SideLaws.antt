@@ -22,7 +22,7 @@ use Rattle.paper.specs.Metadata.{Dictionary, namesIn}
 use Rattle.paper.specs.Operations.{boxReadBy}
 use Rattle.paper.specs.Paths.{childNamed}
 use Rattle.paper.specs.Refusals.{reached}
-use Rattle.paper.specs.Shredding.{fieldAt}
+use Rattle.paper.specs.Standing.{fieldAt}
 use Rattle.paper.specs.Values.{Child, childBytes, headSize, areaOf, idsOf, namesAt, membersOf, meaningOf, whole}
 use Rattle.paper.specs.Words.{at, andThen, isThere}
 use Rattle.paper.specs.declared.BoxAnswer.{BoxAnswer}
@@ -31,13 +31,13 @@ use Rattle.paper.specs.declared.Reading.{Reading}
 use Rattle.paths.specs.Places.{placeOf}
 use Rattle.paths.specs.declared.places.Place.the-variants.{At, Nowhere}
 use Rattle.paths.specs.declared.places.Place.{Place}
-use Rattle.values.specs.Layouts.{Container, LaidOut}
-use Rattle.values.specs.declared.shape.Layout.{Layout}
+use Rattle.containers.specs.Layouts.{Container, LaidOut}
+use Rattle.containers.specs.declared.shape.Layout.{Layout}
 use Rattle.boxes.proofs.DoubleLaws.{meant}
 use Rattle.boxes.proofs.MemberLaws.{Members, made-of, members, members-within, field-named, named-means, named-within}
 use Rattle.dictionary.proofs.NumbersRunLaws.{rest}
 use Rattle.paper.proofs.WordLaws.{there-some, some-there}
-use Rattle.values.proofs.LayoutLaws.{area-same}
+use Rattle.containers.proofs.LayoutLaws.{area-same}
 use Rattle.values.proofs.ValueLaws.{object-container, object-id, whole-some}
 
 -- ---- a place that was found or not

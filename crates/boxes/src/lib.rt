@@ -58,7 +58,7 @@ fn side_in(
     else {
         return Side::Nothing;
     };
-    let l = values::layout_of(s, counted, id, width);
+    let l = containers::layout_of(s, counted, id, width);
     let from = l.area;
     let area = &s[from..];
     let end = start + size;

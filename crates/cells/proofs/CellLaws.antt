@@ -11,14 +11,14 @@ use lib.Ieee.{ofBits, nanBits, binary32, binary64}
 use lib.ListN.{length, getD, take, drop, length-drop}
 use lib.Seq.{take-all}
 use Rattle.numbers.specs.Little.{number, numberAt}
-use Rattle.numbers.specs.Signed.{signedOf}
+use Rattle.signed.specs.Signed.{signedOf}
 use Rattle.paper.specs.Cells.{bodyKind, cellBy, cellMeaning, numberCell, handedOut}
 use Rattle.paper.specs.FirstBytes.{payloadSizes}
 use Rattle.paper.specs.Limits.{mostCell}
-use Rattle.paper.specs.Meaning.{Scalar, boolean, payload, text}
+use Rattle.paper.specs.Meaning.{Scalar, boolean, payload, text, textMeaning}
 use Rattle.paper.specs.Operations.{cellOutcome, cellReadBy, cellAnswer}
-use Rattle.paper.specs.Refusals.{unless, orElse}
-use Rattle.paper.specs.Schemas.{columnCode}
+use Rattle.paper.specs.Refusals.{require, obtain}
+use Rattle.paper.specs.Schemas.{columnCode, columnOf}
 use Rattle.paper.specs.Words.{at, given}
 use Rattle.paper.specs.declared.Cell.the-variants.{Boolean, Integer, Float, Double, FloatNan, DoubleNan, Length, Uuid}
 use Rattle.paper.specs.declared.Cell.{Cell}
@@ -29,73 +29,73 @@ use Rattle.paper.specs.declared.Refusal.the-variants.{TooLong, BadSchema, BadRo
 -- ---- in the order of the refusals
 
 module _ (code : ℕ) (s : List ℕ) where
-  pub too-long : 16384 < length s → Refused TooLong ≡ cellAnswer code s
-  unfolding cellAnswer cellReadBy cellOutcome unless mostCell
-  too-long h = rw (lt-leb (length s) 16384 h)
+  pub too-long : mostCell < length s → Refused TooLong ≡ cellAnswer code s
+  unfolding cellAnswer cellReadBy cellOutcome require
+  too-long h = rw (lt-leb (length s) mostCell h)
 
-  module _ (fits : length s ≤ 16384) {known : Bool} (is-known : known ≡ columnCode code) where
+  module _ (fits : length s ≤ mostCell) {known : Bool} (is-known : known ≡ columnCode code) where
     pub no-code : not known ≡ true → Refused BadSchema ≡ cellAnswer code s
-    unfolding cellAnswer cellReadBy cellOutcome unless mostCell
-    no-code e = rw (le-leb (length s) 16384 fits, ← is-known, not-true known e)
+    unfolding cellAnswer cellReadBy cellOutcome require obtain columnOf given
+    no-code e = rw (le-leb (length s) mostCell fits, ← is-known, not-true known e)
 
     module _ (right : not known ≡ false) where
-      no-meaning : cellMeaning code s ≡ none → Refused BadRow ≡ cellAnswer code s
-      unfolding cellAnswer cellReadBy cellOutcome unless orElse mostCell
-      no-meaning e = rw (le-leb (length s) 16384 fits, ← is-known, not-false known right, e)
+      no-meaning : cellMeaning (record { code = code }) s ≡ none → Refused BadRow ≡ cellAnswer code s
+      unfolding cellAnswer cellReadBy cellOutcome require obtain columnOf given
+      no-meaning e = rw (le-leb (length s) mostCell fits, ← is-known, not-false known right, e)
 
-      meaning : {value : Scalar} → cellMeaning code s ≡ some value → Read (handedOut value) ≡ cellAnswer code s
-      unfolding cellAnswer cellReadBy cellOutcome unless orElse mostCell
-      meaning e = rw (le-leb (length s) 16384 fits, ← is-known, not-false known right, e)
+      meaning : {value : Scalar} → cellMeaning (record { code = code }) s ≡ some value → Read (handedOut value) ≡ cellAnswer code s
+      unfolding cellAnswer cellReadBy cellOutcome require obtain columnOf given
+      meaning e = rw (le-leb (length s) mostCell fits, ← is-known, not-false known right, e)
 
       -- ---- binary, string, and the others by their size
 
       pub binary-read : code ≡ 15 → Read (Length (length s)) ≡ cellAnswer code s
       unfolding handedOut cellMeaning bodyKind cellBy
       binary-read e =
-          let means : cellMeaning code s ≡ some (payload 15 s) = rw e in
+          let means : cellMeaning (record { code = code }) s ≡ some (payload 15 s) = rw e in
           meaning means
 
       pub string-read : code ≡ 16 → Read (Length (length s)) ≡ cellAnswer code s
-      unfolding handedOut cellMeaning bodyKind cellBy
+      unfolding handedOut cellMeaning bodyKind cellBy textMeaning
       string-read e =
-          let means : cellMeaning code s ≡ some (text s) = rw e in
+          let means : cellMeaning (record { code = code }) s ≡ some (text s) = rw e in
           meaning means
 
       module _ (one : code ≡ 1 → ⊥) (binary : code ≡ 15 → ⊥) (string : code ≡ 16 → ⊥) (size : ℕ) (is-size : size ≡ getD payloadSizes code 0) where
         pub wrong-size : (length s ≡ size → ⊥) → Refused BadRow ≡ cellAnswer code s
         unfolding cellMeaning bodyKind cellBy given
         wrong-size n =
-            let means : cellMeaning code s ≡ none =
+            let means : cellMeaning (record { code = code }) s ≡ none =
             rw (ne-eqb code 1 one, ne-eqb code 15 binary, ne-eqb code 16 string, ← is-size, ne-eqb (length s) size n) in
             no-meaning means
 
         pub number-read : {r : Cell} → length s ≡ size → r ≡ numberCell code s → Read r ≡ cellAnswer code s
         unfolding handedOut cellMeaning bodyKind cellBy given
         number-read {r} e is =
-            let means : cellMeaning code s ≡ some (payload code s) =
+            let means : cellMeaning (record { code = code }) s ≡ some (payload code s) =
             rw (ne-eqb code 1 one, ne-eqb code 15 binary, ne-eqb code 16 string, ← is-size, eq-eqb (length s) size e) in
             let handed : handedOut (payload code s) ≡ numberCell code s = rw (ne-eqb code 15 binary) in
             ap Read (is ∙ sym handed) ∙ meaning means
 
 -- ---- a boolean
 
-module _ (s : List ℕ) (fits : length s ≤ 16384) where
+module _ (s : List ℕ) (fits : length s ≤ mostCell) where
   pub yes-no-size : (length s ≡ 1 → ⊥) → Refused BadRow ≡ cellAnswer 1 s
   unfolding columnCode cellMeaning bodyKind cellBy given
   yes-no-size n =
-      let means : cellMeaning 1 s ≡ none = rw (ne-eqb (length s) 1 n) in
+      let means : cellMeaning (record { code = 1 }) s ≡ none = rw (ne-eqb (length s) 1 n) in
       no-meaning 1 s fits refl refl means
 
   pub yes-no-content : length s ≡ 1 → 1 < at s 0 → Refused BadRow ≡ cellAnswer 1 s
   unfolding columnCode cellMeaning bodyKind cellBy given
   yes-no-content e h =
-      let means : cellMeaning 1 s ≡ none = rw (eq-eqb (length s) 1 e, lt-leb (at s 0) 1 h) in
+      let means : cellMeaning (record { code = 1 }) s ≡ none = rw (eq-eqb (length s) 1 e, lt-leb (at s 0) 1 h) in
       no-meaning 1 s fits refl refl means
 
   pub yes-no-read : length s ≡ 1 → at s 0 ≤ 1 → Read (Boolean (eqb (at s 0) 1)) ≡ cellAnswer 1 s
   unfolding columnCode cellMeaning bodyKind cellBy given handedOut
   yes-no-read e h =
-      let means : cellMeaning 1 s ≡ some (boolean (eqb (at s 0) 1)) = rw (eq-eqb (length s) 1 e, le-leb (at s 0) 1 h) in
+      let means : cellMeaning (record { code = 1 }) s ≡ some (boolean (eqb (at s 0) 1)) = rw (eq-eqb (length s) 1 e, le-leb (at s 0) 1 h) in
       meaning 1 s fits refl refl means
 
 -- ---- numbers

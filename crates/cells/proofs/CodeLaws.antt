@@ -7,7 +7,7 @@ use borrow.Author.Tests.{eqb-true, leb-true, leb-false, ne-eqb, le-leb, lt-leb, 
 use lib.Dec.{eqb, leb}
 use lib.ListN.{getD}
 use Rattle.cells.specs.Sized.{NumberSized}
-use Rattle.numbers.specs.Signed.{SomeWidth}
+use Rattle.signed.specs.Signed.{SomeWidth}
 use Rattle.paper.specs.FirstBytes.{lengthPrefixed, payloadSizes}
 use Rattle.paper.specs.Schemas.{columnCode}
 use Rattle.numbers.proofs.Table.{entry, and-left, and-right}

@@ -4,6 +4,7 @@ ghost use mathlib.Core.Path.{_≡_};
 ghost use Prim.Native.Nat.{_≤_};
 ghost use lib.Ieee.{ofBits, nanBits, binary32, binary64};
 ghost use lib.ListN.{length};
+ghost use Rattle.paper.specs.Limits.{mostCell};
 ghost use Rattle.paper.specs.Schemas.{columnCode};
 ghost use Rattle.paper.specs.Cells.{numberCell};
 ghost use Rattle.paper.specs.Operations.{cellAnswer};
@@ -71,12 +72,12 @@ fn number_cell(code: usize, bytes: &[u8]) -> Cell
         let second = numbers::read8(bytes, 8);
         return Cell::Uuid { first, second };
     }
-    Cell::Integer(numbers::read_signed(bytes, 0, bytes.len()))
+    Cell::Integer(signed::read_signed(bytes, 0, bytes.len()))
 }
 
 // A cell of a boolean: `00` false or `01` true.
 fn yes_no(bytes: &[u8]) -> CellAnswer
-    requires { ⌜ length (now bytes) ≤ 16384 ⌝ }
+    requires { ⌜ length (now bytes) ≤ mostCell ⌝ }
     ensures { λ r. ⌜ r ≡ cellAnswer 1 (now (bytes .entry)) ⌝ }
 {
     if bytes.len() != 1 {
@@ -92,7 +93,7 @@ fn yes_no(bytes: &[u8]) -> CellAnswer
 pub fn cell(code: u8, bytes: &[u8]) -> CellAnswer
     ensures { λ r. ⌜ r ≡ cellAnswer code (now (bytes .entry)) ⌝ }
 {
-    if 16384 < bytes.len() {
+    if paper::MOST_CELL < bytes.len() {
         return CellAnswer::Refused(Refusal::TooLong);
     }
     if !column_code(code) {

@@ -27,7 +27,7 @@ pub fn refused(refusal: Refusal) {
 // A signed number, by its two's complement.
 fn signed(z: i64) {
     say(b": ");
-    let n = numbers::unsigned(z);
+    let n = signed::unsigned(z);
     if n < 9223372036854775808 {
         number(n);
     } else {

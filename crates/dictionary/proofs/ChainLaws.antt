@@ -1,18 +1,18 @@
 -- Chains: each thing stands to the next as a test says. Offsets that never fall and names that rise are two of them, and
 -- the laws are said once.
-use mathlib.Core.Bool.{Bool, true, _&&_}
+use mathlib.Core.Bool.{Bool, true, false, _&&_}
 use mathlib.Core.List.{List, [], _∷_}
 use mathlib.Core.Path.{_≡_, refl, sym, ap, _∙_}
 use Prim.Native.Nat.{ℕ, zero, suc, _+_, _≤_, _<_}
 use native.Mathlib.Numerals.{add-one}
 use native.Mathlib.Omega.{arith}
-use borrow.Author.Tests.{leb-true, le-leb}
-use lib.Dec.{leb}
+use borrow.Author.Tests.{leb-true, le-leb, ltb-true, ltb-false, eqb-true, eqb-false}
+use lib.Dec.{leb, ltb, eqb}
 use lib.ListN.{length, getD, drop}
 use lib.Seq.{drop-cons, drop-length}
 use Rattle.order.specs.Before.{before}
 use Rattle.paper.specs.Metadata.{neverFall, rising}
-use Rattle.order.proofs.OrderLaws.{before-transitive}
+use Rattle.order.proofs.OrderLaws.{before-irreflexive, before-transitive, before-asymmetric}
 use Rattle.paper.proofs.WordLaws.{and-both}
 
 module _ {A : Type 0} (test : A → A → Bool) where
@@ -81,3 +81,15 @@ fall-le ns i j all lt h =
 -- In a rising dictionary a smaller id has a smaller name.
 pub rising-before : (names : List (List ℕ)) (i j : ℕ) → i < j → j < length names → rising names ≡ true → before (getD names i []) (getD names j []) ≡ true
 rising-before names i j lt h all = chain-apart before [] before-transitive names i j (sym (rising-chained names) ∙ all) lt h
+
+-- So ids are in the order of their names.
+pub rising-order : (names : List (List ℕ)) (i j : ℕ) → i < length names → j < length names → rising names ≡ true → ltb i j ≡ before (getD names i []) (getD names j [])
+rising-order names i j h k all = go (ltb i j) (eqb i j) refl refl
+  where
+    go : (less same : Bool) → ltb i j ≡ less → eqb i j ≡ same → less ≡ before (getD names i []) (getD names j [])
+    go true same e f = sym (rising-before names i j (ltb-true i j e) k all)
+    go false true e f = sym (rw (eqb-true i j f) (before-irreflexive (getD names j [])))
+    go false false e f =
+        let above = ltb-false i j e in
+        let other = eqb-false i j f in
+        sym (before-asymmetric (getD names j []) (getD names i []) (rising-before names j i (omega arith) h all))

@@ -1,6 +1,12 @@
 // Dictionary: metadata judged by the rules of 01, and its names.
 //
 // The functions with a `requires` are inner ones: whoever calls them has had the metadata judged.
+mod ids;
+
+pub use ids::InputId;
+pub use ids::NormalId;
+pub use ids::comes_before;
+pub use ids::input_id_at;
 use numbers::read;
 use numbers::wide;
 use order::Order;
@@ -140,13 +146,13 @@ pub fn judge(metadata: &[u8]) -> Judged
 }
 
 // The name of an id.
-pub fn name(metadata: &[u8], dictionary: Names, id: usize) -> &[u8]
-    requires { ⌜ Opened (now metadata) dictionary × (id < dictionary .count) ⌝ }
-    ensures { λ r. ⌜ now r ≡ getD (namesIn (now (metadata .entry))) id [] ⌝ }
+pub fn name(metadata: &[u8], dictionary: Names, id: InputId) -> &[u8]
+    requires { ⌜ Opened (now metadata) dictionary × (id .0 < dictionary .count) ⌝ }
+    ensures { λ r. ⌜ now r ≡ getD (namesIn (now (metadata .entry))) (id .0) [] ⌝ }
 {
     let width = dictionary.width;
     let count = dictionary.count;
-    let place = 1 + width + id * width;
+    let place = 1 + width + id.0 * width;
     let area = 1 + width + (count + 1) * width;
     let from = read(metadata, place, width);
     let to = read(metadata, place + width, width);

@@ -3,7 +3,7 @@ ghost use mathlib.Core.Path.{_≡_};
 ghost use Prim.Native.Nat.{_≤_};
 ghost use lib.ListN.{length};
 ghost use Rattle.paper.specs.Words.{isThere};
-ghost use Rattle.paper.specs.Limits.{mostLevels};
+ghost use Rattle.paper.specs.Limits.{mostLevels, mostValue};
 ghost use Rattle.paper.specs.Metadata.{namesIn};
 ghost use Rattle.paper.specs.Values.{meaningOf};
 ghost use Rattle.dictionary.specs.Judging.{Opened};
@@ -21,7 +21,7 @@ pub enum Document {
 
 // The outermost value ends where the input does, and is lawful.
 fn lawful_value(metadata: &[u8], names: Names, value: &[u8]) -> bool
-    requires { ⌜ Opened (now metadata) names × (length (now value) ≤ 16384) ⌝ }
+    requires { ⌜ Opened (now metadata) names × (length (now value) ≤ mostValue) ⌝ }
     ensures { λ r. ⌜ r ≡ isThere (meaningOf mostLevels (namesIn (now (metadata .entry))) (now (value .entry))) ⌝ }
 {
     let readings = heads::READINGS;

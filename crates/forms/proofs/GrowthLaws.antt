@@ -1,27 +1,27 @@
--- How long what is written is, against what was read: never more than twice as long. So the normal form of a lent document
--- has a value of at most twice the most bytes of one.
+-- How long what is written is, against what was read: never more than twice as long. So is the normal value of a lent
+-- document, against the value that was lent.
 use mathlib.Core.Bool.{Bool, true, false, cond}
 use mathlib.Core.List.{List, _∷_, map}
 use mathlib.Core.Option.{Option, none, some, Option·some-injective as some-injective}
 use mathlib.Core.Path.{_≡_, refl, sym, ap, _∙_}
 use Prim.Native.Nat.{ℕ, zero, suc, _+_, _*_, _/_, _≤_, _<_}
-use native.Mathlib.Nat.{mul-le-mul, mul-one}
 use native.Mathlib.Omega.{arith}
 use borrow.Author.Tests.{leb-true, le-leb, ne-eqb}
 use lib.Dec.{leb, eqb}
 use lib.ListN.{length, drop, length-drop}
 use Rattle.forms.specs.WellFormed.{namesThere}
 use Rattle.numbers.specs.Little.{smallestWidth}
+use Rattle.paper.proofs.MeaningLaws.{prefixedDoc, string-is, prefixed-is}
 use Rattle.paper.specs.FirstBytes.{readingOf}
-use Rattle.paper.specs.Limits.{mostMetadata, mostValue}
+use Rattle.paper.specs.Bounds.{mostNames}
 use Rattle.paper.specs.Meaning.{boolean, payload, text, Doc, null, scalar, array, object, Docs, Fields}
-use Rattle.paper.specs.Metadata.{Dictionary, offsetSize, dictionaryOf}
+use Rattle.paper.specs.Metadata.{Dictionary}
 use Rattle.paper.specs.Normal.{namesUsed, normalForm, largest, prefixedBytes, textBytes, scalarBytes, idOf, fieldNames, valueBytes, elementBytes, memberBytes}
-use Rattle.paper.specs.Values.{Child, extentBy, areaOf, idsOf, namesAt, elementsOf, membersOf, primitiveMeaning, prefixedMeaning, elementDocs, memberDocs, meaningBy, meaningOf, whole}
+use Rattle.paper.specs.Values.{Child, extentBy, areaOf, idsOf, namesAt, elementsOf, membersOf, primitiveMeaning, elementDocs, memberDocs, meaningBy, meaningOf, whole}
 use Rattle.paper.specs.Words.{at, isThere}
 use Rattle.paper.specs.declared.Reading.the-variants.{Fixed, Prefixed, Short, ObjectHead, ArrayHead, Nothing}
 use Rattle.paper.specs.declared.Reading.{Reading}
-use Rattle.values.specs.Children.{sizes}
+use Rattle.containers.specs.Children.{sizes}
 use Rattle.forms.proofs.BackLaws.{ids-length, ids-below}
 use Rattle.forms.proofs.ContainerLaws.{array-length, object-length, largest-below}
 use Rattle.forms.proofs.LieLaws.{Bytes, elements-lie, members-lie, lie-sized}
@@ -30,7 +30,6 @@ use Rattle.forms.proofs.WellFormedLaws.{never-marked, decoded-names-the
 use Rattle.forms.proofs.NamesLaws.{there-used, normal-names-there}
 use Rattle.heads.proofs.HeadLaws.{extent-some, array-spans, object-spans}
 use Rattle.heads.proofs.ReadingLaws.{fixed-sizes, short-sizes, array-sizes, object-sizes}
-use Rattle.names.proofs.NeverLongerLaws.{read-length}
 use Rattle.names.proofs.ContainedLaws.{contained-count}
 use Rattle.names.proofs.UsedLaws.{names-rise, among-used}
 use Rattle.numbers.proofs.WidthLaws.{smallest-least}
@@ -62,8 +61,8 @@ module _ (used : Dictionary) where
       let type : ℕ = suc (suc (suc more)) in
       rw (← some-injective (scalar (payload type s)) d (given-some _ (some (scalar (payload type s))) e .1), ne-eqb type 15 other) (omega arith)
 
-  prefixed-grows : (type : ℕ) (s : List ℕ) (b : Bool) → length (valueBytes used (prefixedMeaning b type s)) ≤ 5 + length s
-  unfolding prefixedMeaning valueBytes scalarBytes
+  prefixed-grows : (type : ℕ) (s : List ℕ) (b : Bool) → length (valueBytes used (prefixedDoc b type s)) ≤ 5 + length s
+  unfolding valueBytes scalarBytes
   prefixed-grows type s true = text-grows s
   prefixed-grows type s false = go (eqb type 15)
     where
@@ -73,7 +72,7 @@ module _ (used : Dictionary) where
 
 -- ---- any value
 
-module _ (names used : Dictionary) (few : length used ≤ 65536) (decode : List ℕ → Option Doc)
+module _ (names used : Dictionary) (few : length used ≤ mostNames) (decode : List ℕ → Option Doc)
     (each : Grows used decode)
     (s : List ℕ) (d : Doc) (bytes : Bytes s) (short : length s ≤ mostRead) (fills : whole s ≡ true) (there : namesThere used d ≡ true) where
   abbrev Grown : Type 0
@@ -136,8 +135,8 @@ module _ (names used : Dictionary) (few : length used ≤ 65536) (decode : List 
       let grown =
       members-grow used decode each (areaOf c i w s) area-whole area-small (namesAt names (idsOf c i s)) children fs (lie-sized lie) f all-there in
       let ids : List ℕ = map (idOf used) (fieldNames fs) in
-      let largest-small : largest ids < 65536 = largest-below (length used) 65536 ids (ids-below used fs all-there) few (omega arith) in
-      let narrow : smallestWidth (largest ids) ≤ 2 = smallest-least (largest ids) 2 (omega arith) largest-small in
+      let largest-small : largest ids < mostNames = largest-below (length used) mostNames ids (ids-below used fs all-there) few (omega arith) in
+      let narrow : smallestWidth (largest ids) ≤ 2 = smallest-least (largest ids) 2 (omega arith) (omega arith) in
       let least : 1 ≤ i = bounds .1 .0 in
       rw (object-length ids (memberBytes used fs) (ids-length used fs))
       (container-grows s bytes short c i w spans (bounds .0 .0) (bounds .2 .0) children lie (memberBytes used fs) (smallestWidth (largest ids)) grown
@@ -150,8 +149,8 @@ module _ (names used : Dictionary) (few : length used ≤ 65536) (decode : List 
       let long = length-there type is in
       let grown = prefixed-grows used type (drop 5 s) (eqb type 16) in
       let size = length-drop 5 s in
-      rw (← some-injective (prefixedMeaning (eqb type 16) type (drop 5 s)) d e) (omega arith)
-  grows-by (Short size) is e = rw (← some-injective (scalar (text (drop 1 s))) d e) (short-grows size is)
+      rw (prefixed-is (eqb type 16) type (drop 5 s) e) (omega arith)
+  grows-by (Short size) is e = rw (string-is (drop 1 s) e) (short-grows size is)
   grows-by (ObjectHead c i w) is e =
       let lie = then-some (membersOf names c i w s) _ e in
       let inside = then-some (memberDocs decode (areaOf c i w s) (namesAt names (idsOf c i s)) (lie .0)) _ (lie .2) in
@@ -167,7 +166,7 @@ module _ (names used : Dictionary) (few : length used ≤ 65536) (decode : List 
   grows-by Nothing is e = never (sym (some-there none e))
 
 pub value-grows : (levels : ℕ) (names used : Dictionary) (s : List ℕ) (d : Doc) → meaningOf levels names s ≡ some d → Bytes s → length s ≤ mostRead
-    → namesThere used d ≡ true → length used ≤ 65536 → length (valueBytes used d) ≤ 2 * length s
+    → namesThere used d ≡ true → length used ≤ mostNames → length (valueBytes used d) ≤ 2 * length s
 unfolding meaningOf isThere
 value-grows zero names used s d e bytes short there few = never (sym (some-there none e))
 value-grows (suc levels) names used s d e bytes short there few =
@@ -178,20 +177,10 @@ value-grows (suc levels) names used s d e bytes short there few =
 -- ---- the normal form of a lent document
 
 module _ (levels : ℕ) (names : Dictionary) (s : List ℕ) (d : Doc) (is : meaningOf levels names s ≡ some d) (bytes : Bytes s) where
-  pub normal-grows : length s ≤ mostRead → length names ≤ 65536 → length (normalForm d .value) ≤ 2 * length s
+  pub normal-grows : length s ≤ mostRead → length names ≤ mostNames → length (normalForm d .value) ≤ 2 * length s
   unfolding normalForm
   normal-grows short few =
       let fewer : length (namesUsed d) ≤ length names =
       contained-count (namesUsed d) names (names-rise d)
       (λ name in-used. there-used names d (decoded-names-there levels names s d is) name (sym (among-used name d) ∙ in-used)) in
       value-grows levels names (namesUsed d) s d is bytes short (normal-names-there d) (omega arith)
-
-  pub normal-most : (metadata : List ℕ) → dictionaryOf metadata ≡ some names → length metadata ≤ mostMetadata → length s ≤ mostValue
-      → length (normalForm d .value) ≤ 2 * mostValue
-  unfolding mostMetadata mostValue offsetSize
-  normal-most metadata read fits short =
-      let all = read-length metadata names read in
-      let one : (length names + 1) * 1 ≤ (length names + 1) * offsetSize (at metadata 0) = mul-le-mul (omega arith) (omega arith) in
-      let same = mul-one (length names + 1) in
-      let grown = normal-grows (omega arith) (omega arith) in
-      omega arith

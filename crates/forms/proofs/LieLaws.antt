@@ -12,12 +12,12 @@ use lib.Seq.{getD-take, getD-drop}
 use Rattle.paper.specs.Metadata.{Dictionary, rising}
 use Rattle.paper.specs.Values.{Child, childExtent, childrenAt, endToEnd, everyByteOnce, childBytes, areaOf, startsOf, idsOf, namesAt, elementsOf, membersOf}
 use Rattle.paper.specs.Words.{given, andThen, numbers, allBelow}
-use Rattle.values.specs.Children.{sizes, onceIn, tiledIn}
+use Rattle.containers.specs.Children.{sizes, onceIn, tiledIn}
 use Rattle.paper.proofs.WordLaws.{given-some, then-some}
-use Rattle.values.proofs.ChildLaws.{AllSized, SizedIn, children-sized, extent-fits}
-use Rattle.values.proofs.CoverLaws.{total-sizes, sum-of-once}
-use Rattle.values.proofs.ShapeLaws.{tiled-is-once}
-use Rattle.values.proofs.WalkLaws.{all-within}
+use Rattle.containers.proofs.ChildLaws.{AllSized, SizedIn, children-sized, extent-fits}
+use Rattle.containers.proofs.CoverLaws.{total-sizes, sum-of-once}
+use Rattle.containers.proofs.ShapeLaws.{tiled-is-once}
+use Rattle.containers.proofs.WalkLaws.{all-within}
 
 -- ---- bytes, and parts of them
 

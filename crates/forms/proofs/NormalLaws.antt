@@ -16,8 +16,8 @@ use Rattle.paper.specs.Limits.{mostMetadata, mostValue, mostLevels}
 use Rattle.paper.specs.Meaning.{Doc}
 use Rattle.paper.specs.Metadata.{Dictionary, dictionaryOf}
 use Rattle.paper.specs.Normal.{namesUsed, metadataWidth, metadataBytes, valueBytes, Document, normalForm}
-use Rattle.paper.specs.Operations.{judged, documentFits, checkOutcome, written, normaliseOutcome}
-use Rattle.paper.specs.Refusals.{Outcome, reached, unless, orElse}
+use Rattle.paper.specs.Operations.{judged, documentFits, checkOutcome, written, normaliseOutcome, valueJudged, writable}
+use Rattle.paper.specs.Refusals.{Outcome, reached, require, obtain}
 use Rattle.paper.specs.Values.{meaningOf}
 use Rattle.paper.specs.Words.{joined}
 use Rattle.paper.specs.declared.Refusal.{Refusal}
@@ -38,7 +38,6 @@ pub record Writable (levels : ℕ) (d : Doc) : Type 0 where
   pub names-short : length (joined (namesUsed d)) < 2 ^ 32
 
 value-small : (n : ℕ) → n ≤ mostValue → n < 2 ^ 32
-unfolding mostValue
 value-small n h = omega arith
 
 module _ (levels : ℕ) (d : Doc) (writable : Writable levels d) where
@@ -66,17 +65,17 @@ same-normal levels a b writable-a writable-b = (equal, ap normalForm)
 
 -- ---- what is accepted
 
-unless-reached : {A : Type 0} (refusal : Refusal) (b : Bool) (next : Outcome A) {a : A} → unless refusal b next ≡ reached a
+require-reached : {A : Type 0} (refusal : Refusal) (b : Bool) (next : Outcome A) {a : A} → require b refusal next ≡ reached a
     → (b ≡ true) × (next ≡ reached a)
-unfolding unless
-unless-reached refusal true next e = (refl, e)
-unless-reached refusal false next e = absurd (let z : _≡_ {A = ℕ} 0 1 = cc in omega arith)
+unfolding require
+require-reached refusal true next e = (refl, e)
+require-reached refusal false next e = absurd (let z : _≡_ {A = ℕ} 0 1 = cc in omega arith)
 
-or-else-reached : {A B : Type 0} (refusal : Refusal) (x : Option A) (next : A → Outcome B) {b : B} → orElse refusal x next ≡ reached b
+obtain-reached : {A B : Type 0} (refusal : Refusal) (x : Option A) (next : A → Outcome B) {b : B} → obtain x refusal next ≡ reached b
     → (a : A) × (x ≡ some a) × (next a ≡ reached b)
-unfolding orElse
-or-else-reached refusal none next e = absurd (let z : _≡_ {A = ℕ} 0 1 = cc in omega arith)
-or-else-reached refusal (some a) next e = (a, refl, e)
+unfolding obtain
+obtain-reached refusal none next e = absurd (let z : _≡_ {A = ℕ} 0 1 = cc in omega arith)
+obtain-reached refusal (some a) next e = (a, refl, e)
 
 -- What `normalise` has seen of a document that it accepts.
 pub record Accepted (metadata value : List ℕ) (n : Document) : Type 0 where
@@ -90,14 +89,14 @@ pub record Accepted (metadata value : List ℕ) (n : Document) : Type 0 where
   pub written-is : normalForm d ≡ n
 
 pub accepted : (metadata value : List ℕ) (n : Document) → normaliseOutcome metadata value ≡ reached n → Accepted metadata value n
-unfolding normaliseOutcome judged written documentFits normalForm
+unfolding normaliseOutcome judged valueJudged written writable documentFits normalForm
 accepted metadata value n e =
-    let first = unless-reached _ (leb (length metadata) mostMetadata && leb (length value) mostValue) _ e in
+    let first = require-reached _ (leb (length metadata) mostMetadata && leb (length value) mostValue) _ e in
     let fit = and-both (leb (length metadata) mostMetadata) (leb (length value) mostValue) (first .0) in
-    let second = or-else-reached _ (dictionaryOf metadata) _ (first .1) in
-    let third = or-else-reached _ (meaningOf mostLevels (second .0) value) _ (second .2) in
+    let second = obtain-reached _ (dictionaryOf metadata) _ (first .1) in
+    let third = obtain-reached _ (meaningOf mostLevels (second .0) value) _ (second .2) in
     let d : Doc = third .0 in
-    let fourth = unless-reached _ (leb (length (valueBytes (namesUsed d) d)) mostValue) _ (third .2) in
+    let fourth = require-reached _ (leb (length (valueBytes (namesUsed d) d)) mostValue) _ (third .2) in
     record {
       names = second .0;
       d = d;
@@ -111,7 +110,7 @@ accepted metadata value n e =
 
 -- The other way round: a document that keeps all of that is accepted.
 pub accepts : (metadata value : List ℕ) (n : Document) → Accepted metadata value n → normaliseOutcome metadata value ≡ reached n
-unfolding normaliseOutcome judged written documentFits normalForm unless orElse
+unfolding normaliseOutcome judged valueJudged written writable documentFits normalForm require obtain
 accepts metadata value n a =
     rw (
       le-leb (length metadata) mostMetadata (a .metadata-fits),
@@ -133,7 +132,6 @@ module _ (metadata value : List ℕ) (n : Document) (a : Accepted metadata value
       (sym (among-used name (a .d)) ∙ in-used))
 
   pub accepted-writable : Writable mostLevels (a .d)
-  unfolding mostMetadata
   accepted-writable =
       let size = metadata-length used in
       let shorter = normal-shorter in
@@ -175,7 +173,7 @@ normal-again metadata value n bytes e =
 -- ---- lent documents: the same normal form exactly when they mean the same
 
 accepted-means : (metadata value : List ℕ) (n : Document) (a : Accepted metadata value n) → checkOutcome metadata value ≡ reached (a .d)
-unfolding checkOutcome documentFits judged unless orElse
+unfolding checkOutcome documentFits judged valueJudged require obtain
 accepted-means metadata value n a =
     rw (le-leb (length metadata) mostMetadata (a .metadata-fits), le-leb (length value) mostValue (a .value-fits), a .metadata-is, a .value-is)
 
@@ -193,3 +191,18 @@ same-meaning metadata value metadata′ value′ bytes bytes′ n n′ e e′ d 
     let same : (normalForm (a .d) ≡ normalForm (b .d)) ↔ (a .d ≡ b .d) =
     same-normal mostLevels (a .d) (b .d) (accepted-writable metadata value n a bytes) (accepted-writable metadata′ value′ n′ b bytes′) in
     rw (a .written-is, b .written-is, first, second) at same
+
+-- A lent document that check accepts comes to what is written of its meaning: its normal form, or refusal 8.
+pub accepted-written : (metadata value : List ℕ) (d : Doc) → checkOutcome metadata value ≡ reached d → normaliseOutcome metadata value ≡ written d
+unfolding checkOutcome normaliseOutcome judged valueJudged require obtain
+accepted-written metadata value d e =
+    let first = require-reached _ (documentFits metadata value) _ e in
+    let second = obtain-reached _ (dictionaryOf metadata) _ (first .1) in
+    let third = obtain-reached _ (meaningOf mostLevels (second .0) value) _ (second .2) in
+    rw (first .0, second .1, third .1) (ap written (same-reached (third .2)))
+
+-- So documents that mean the same have the same outcome, refusal 8 too.
+pub same-outcome : (metadata value metadata′ value′ : List ℕ) (d d′ : Doc) → checkOutcome metadata value ≡ reached d
+    → checkOutcome metadata′ value′ ≡ reached d′ → d ≡ d′ → normaliseOutcome metadata value ≡ normaliseOutcome metadata′ value′
+same-outcome metadata value metadata′ value′ d d′ means means′ same =
+    accepted-written metadata value d means ∙ ap written same ∙ sym (accepted-written metadata′ value′ d′ means′)

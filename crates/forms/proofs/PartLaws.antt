@@ -13,11 +13,11 @@ use Rattle.numbers.specs.Little.{numberBytes}
 use Rattle.paper.specs.Normal.{offsetsFrom, numbersBytes}
 use Rattle.paper.specs.Values.{Child, childExtent, childrenAt, endToEnd, everyByteOnce, childBytes}
 use Rattle.paper.specs.Words.{given, andThen, isThere, allBelow, joined}
-use Rattle.values.specs.Children.{onceIn, tiledIn}
+use Rattle.containers.specs.Children.{onceIn, tiledIn}
 use Rattle.forms.proofs.ScalarLaws.{Filled}
 use Rattle.heads.proofs.HeadLaws.{extent-more}
-use Rattle.values.proofs.ChildLaws.{children-below}
-use Rattle.values.proofs.ShapeLaws.{tiled-is-once}
+use Rattle.containers.proofs.ChildLaws.{children-below}
+use Rattle.containers.proofs.ShapeLaws.{tiled-is-once}
 
 -- Where each part starts, from a place on: all offsets but the last.
 unfoldable pub startsFrom : ℕ → List (List ℕ) → List ℕ

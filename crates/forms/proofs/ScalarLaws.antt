@@ -11,6 +11,7 @@ use lib.ListN.{length, getD, drop, length-append}
 use lib.Seq.{drop-at}
 use Rattle.forms.specs.WellFormed.{scalarGood}
 use Rattle.numbers.specs.Little.{numberBytes, numberAt}
+use Rattle.paper.proofs.MeaningLaws.{prefixedDoc, string-back, prefixed-back}
 use Rattle.paper.specs.FirstBytes.{lengthPrefixed, payloadSizes, primitiveReading, kindReading, readingOf}
 use Rattle.paper.specs.Meaning.{Scalar, boolean, payload, text, Doc, null, scalar}
 use Rattle.paper.specs.Metadata.{Dictionary}
@@ -57,7 +58,8 @@ short-filled s = filled-by (4 * length s + 1) s _ (short-reading (length s)) (ap
 
 short-back : (levels : ℕ) (names : Dictionary) (s : List ℕ) → meaningOf (suc levels) names ((4 * length s + 1) ∷ s) ≡ some (scalar (text s))
 unfolding meaningBy
-short-back levels names s = filled-meaning levels names ((4 * length s + 1) ∷ s) (Short (length s)) (short-filled s) (short-reading (length s))
+short-back levels names s =
+    filled-meaning levels names ((4 * length s + 1) ∷ s) (Short (length s)) (short-filled s) (short-reading (length s)) ∙ string-back s
 
 -- ---- bytes with their length in front
 
@@ -82,11 +84,12 @@ module _ (type : ℕ) (s : List ℕ) (is : readingOf (4 * type) ≡ Prefixed typ
   prefixed-behind = drop-at (numberBytes 4 (length s)) s 4 (length-number-bytes 4 (length s))
 
   module _ (levels : ℕ) (names : Dictionary) where
-    prefixed-back : meaningOf (suc levels) names (prefixedBytes type s) ≡ some (prefixedMeaning (eqb type 16) type s)
+    prefixed-read : meaningOf (suc levels) names (prefixedBytes type s) ≡ some (prefixedDoc (eqb type 16) type s)
     unfolding meaningBy
-    prefixed-back =
+    prefixed-read =
         filled-meaning levels names (prefixedBytes type s) (Prefixed type) prefixed-filled (unfold prefixedBytes in is)
-        ∙ ap (λ (l : List ℕ). some (prefixedMeaning (eqb type 16) type l)) prefixed-behind
+        ∙ ap (λ (l : List ℕ). prefixedMeaning (eqb type 16) type l) prefixed-behind
+        ∙ prefixed-back (eqb type 16) type s
 
 -- ---- any scalar
 
@@ -136,7 +139,7 @@ module _ (names : Dictionary) where
   boolean-written false = (refl, λ levels. filled-meaning levels names (8 ∷ []) (Fixed 2 0) refl refl)
 
   text-written : (s : List ℕ) → length (textBytes s) < 2 ^ 32 → Written names (textBytes s) (scalar (text s))
-  unfolding textBytes prefixedMeaning
+  unfolding textBytes
   text-written s small = go (leb (length s) 63) small
     where
       go : (b : Bool) → length (cond b ((4 * length s + 1) ∷ s) (prefixedBytes 16 s)) < 2 ^ 32
@@ -144,11 +147,11 @@ module _ (names : Dictionary) where
       go true h = (short-filled s, λ levels. short-back levels names s)
       go false h =
           let size : length s < 2 ^ 32 = prefixed-small 16 s h in
-          (prefixed-filled 16 s string-reading size, λ levels. prefixed-back 16 s string-reading size levels names)
+          (prefixed-filled 16 s string-reading size, λ levels. prefixed-read 16 s string-reading size levels names)
 
   payload-written : (type : ℕ) (s : List ℕ) → scalarGood (payload type s) ≡ true → length (scalarBytes (payload type s)) < 2 ^ 32
       → Written names (scalarBytes (payload type s)) (scalar (payload type s))
-  unfolding scalarBytes meaningBy prefixedMeaning
+  unfolding scalarBytes meaningBy
   payload-written type s good small =
       go (eqb type 15) refl small (payload-parts type s good)
     where
@@ -160,7 +163,7 @@ module _ (names : Dictionary) where
           let size : length s < 2 ^ 32 = prefixed-small type s h in
           let no-text : eqb type 16 ≡ false = rw binary in (
             prefixed-filled type s is size,
-            λ levels. prefixed-back type s is size levels names ∙ ap (λ (b : Bool). some (prefixedMeaning b type s)) no-text,
+            λ levels. prefixed-read type s is size levels names ∙ ap (λ (b : Bool). some (prefixedDoc b type s)) no-text,
           )
       go false e h parts =
           let binary : type ≡ 15 → ⊥ = eqb-false type 15 e in

@@ -11,11 +11,12 @@ use borrow.Author.Tests.{le-leb, lt-leb, eqb-false, eq-eqb, ne-eqb, ltb-true}
 use lib.Dec.{leb, ltb, eqb}
 use lib.ListN.{length, getD, drop, length-drop}
 use Rattle.forms.specs.WellFormed.{scalarGood, allDocs, allMembers, wellFormedBy, wellFormed, namesThere, allNamesThere, fieldNamesThere}
+use Rattle.paper.proofs.MeaningLaws.{prefixedDoc, string-is, prefixed-is}
 use Rattle.paper.specs.FirstBytes.{lengthPrefixed, payloadSizes, readingOf}
 use Rattle.paper.specs.Meaning.{Scalar, boolean, payload, text, Doc, null, scalar, array, object, Docs, noDocs, doc, Fields, noFields, field}
 use Rattle.paper.specs.Metadata.{Dictionary, rising}
 use Rattle.paper.specs.Normal.{fieldNames}
-use Rattle.paper.specs.Values.{Child, childBytes, extentBy, areaOf, idsOf, namesAt, membersOf, elementsOf, primitiveMeaning, prefixedMeaning, elementDocs, memberDocs, meaningBy, meaningOf, whole}
+use Rattle.paper.specs.Values.{Child, childBytes, extentBy, areaOf, idsOf, namesAt, membersOf, elementsOf, primitiveMeaning, elementDocs, memberDocs, meaningBy, meaningOf, whole}
 use Rattle.paper.specs.Words.{at, isThere, allBelow, among}
 use Rattle.paper.specs.declared.Reading.the-variants.{Fixed, Prefixed, Short, ObjectHead, ArrayHead, Nothing}
 use Rattle.paper.specs.declared.Reading.{Reading}
@@ -71,8 +72,7 @@ module _ {names : Dictionary} {inner outer : Doc → Bool} (closed : Closed name
       rw (← some-injective (scalar (payload type s)) d (told .1))
       (closed .scalars (payload type s) (payload-good type s (omega arith) most other sized (told .0)))
 
-  prefixed-passes : (type : ℕ) (s : List ℕ) (b : Bool) → eqb type 16 ≡ b → 15 ≤ type → type ≤ 16 → outer (prefixedMeaning b type s) ≡ true
-  unfolding prefixedMeaning
+  prefixed-passes : (type : ℕ) (s : List ℕ) (b : Bool) → eqb type 16 ≡ b → 15 ≤ type → type ≤ 16 → outer (prefixedDoc b type s) ≡ true
   prefixed-passes type s true e least most = closed .scalars (text s) (unfold scalarGood in refl)
   prefixed-passes type s false e least most =
       let not-string : type ≡ 16 → ⊥ = eqb-false type 16 e in
@@ -123,10 +123,10 @@ module _ (decode : List ℕ → Option Doc) (names : Dictionary) (inner outer : 
       (fixed-length s type size fills is ∙ sizes .2) e
   meant-passes (Prefixed type) is e =
       let sizes = prefixed-sizes (at s 0) is in
-      rw (← some-injective (prefixedMeaning (eqb type 16) type (drop 5 s)) d e)
+      rw (prefixed-is (eqb type 16) type (drop 5 s) e)
       (prefixed-passes closed type (drop 5 s) (eqb type 16) refl (sizes .0) (sizes .1))
   meant-passes (Short size) is e =
-      rw (← some-injective (scalar (text (drop 1 s))) d e) (closed .scalars (text (drop 1 s)) (unfold scalarGood in refl))
+      rw (string-is (drop 1 s) e) (closed .scalars (text (drop 1 s)) (unfold scalarGood in refl))
   meant-passes (ObjectHead c i w) is e =
       let lie = then-some (membersOf names c i w s) _ e in
       let inside = then-some (memberDocs decode (areaOf c i w s) (namesAt names (idsOf c i s)) (lie .0)) _ (lie .2) in

@@ -18,14 +18,14 @@ use Rattle.paper.specs.Metadata.{Dictionary}
 use Rattle.paper.specs.Normal.{largeBit, valueBytes, elementBytes, memberBytes}
 use Rattle.paper.specs.Values.{Child, childExtent, headSize, areaOf, startsOf, childBytes, elementDocs, memberDocs}
 use Rattle.paper.specs.Words.{isThere, among, joined}
-use Rattle.values.specs.Children.{sizes}
+use Rattle.containers.specs.Children.{sizes}
 use Rattle.forms.proofs.ContainerLaws.{countOf, widthOf}
 use Rattle.forms.proofs.LieLaws.{Bytes, bytes-drop, child-length, child-bytes, Lie, lie-count, lie-sizes, numbers-few}
 use Rattle.heads.proofs.HeadLaws.{Spans}
 use Rattle.names.proofs.NeverLongerLaws.{number-at-below}
 use Rattle.numbers.proofs.WidthLaws.{smallest-least}
 use Rattle.paper.proofs.WordLaws.{never, then-some, and-both, some-there}
-use Rattle.values.proofs.ChildLaws.{AllSized, extent-fits}
+use Rattle.containers.proofs.ChildLaws.{AllSized, extent-fits}
 
 -- ---- heads
 
@@ -50,9 +50,9 @@ head-grows p n c′ c i′ i w′ w few count id width =
 
 -- ---- the insides of a container
 
--- The most bytes of a value such that twice as many are counted by two bytes.
+-- The most bytes of a value whose children, twice as long, are counted by two bytes: a container's head takes three or more.
 abbrev pub mostRead : ℕ
-mostRead = 32767
+mostRead = 32770
 
 -- What is written of what so many bytes at most mean is at most twice as long.
 abbrev pub Grows : Dictionary → (List ℕ → Option Doc) → Type 0
@@ -125,8 +125,11 @@ module _ (s : List ℕ) (bytes : Bytes s) (short : length s ≤ mostRead) (c i w
     pub container-grows : (children : List Child) → Lie (areaOf c i w s) (startsOf c i w s) children → (parts : List (List ℕ)) (i′ : ℕ)
         → (length parts ≤ length children) × (length (joined parts) ≤ 2 * sizes children) → i′ ≤ 2 * i
         → headSize (length parts) (countOf parts) i′ (widthOf parts) + length (joined parts) ≤ 2 * length s
+    unfolding headSize
     container-grows children lie parts i′ grown id =
         let all = area-rest in
+        let some-offset : 1 ≤ numberAt s 1 c + 1 = omega arith in
+        let offsets : 1 * 1 ≤ (numberAt s 1 c + 1) * w = mul-le-mul some-offset wide in
         let many = children-few children lie in
         let sum = lie-sizes lie in
         let few : length parts ≤ numberAt s 1 c = omega arith in

@@ -18,12 +18,13 @@ use Rattle.paper.specs.FirstBytes.{lengthPrefixed, payloadSizes, primitiveReadi
 use Rattle.paper.specs.Values.{childExtent, childBytes, meaningOf}
 use Rattle.paper.specs.Words.{at, andThen, isThere}
 use Rattle.paper.specs.declared.Reading.the-variants.{Fixed, Prefixed, Nothing}
-use Rattle.values.specs.Children.{childGood}
+use Rattle.values.specs.Insides.{childGood}
 use Rattle.heads.proofs.HeadLaws.{extent-positive}
 use Rattle.paper.proofs.WordLaws.{never, there-some}
-use Rattle.values.proofs.ChildLaws.{extent-fits}
-use Rattle.values.proofs.InsideLaws.{child-starts, known, own-is, child-judged, child-asks as own-asks}
-use Rattle.values.proofs.LengthLaws.{unknown-none}
+use Rattle.containers.proofs.ChildLaws.{extent-fits}
+use Rattle.values.proofs.InsideLaws.{child-judged}
+use Rattle.containers.proofs.OwnLaws.{child-starts, known, own-is, child-asks as own-asks}
+use Rattle.containers.proofs.LengthLaws.{unknown-none}
 
 -- ---- no container, no ids
 

@@ -11,19 +11,20 @@ use mir.Val.{Fits}
 use Rattle.marking.specs.Ids.{idsOfAll, idsInside, idsIn, markIds}
 use Rattle.marking.specs.Marking.{MarkableChild, MarkableInside, idsOfSized, idsAt}
 use Rattle.numbers.specs.Little.{numberAt}
+use Rattle.paper.specs.Bounds.{mostWalked}
 use Rattle.paper.specs.Meaning.{Doc}
 use Rattle.paper.specs.Metadata.{Dictionary}
 use Rattle.paper.specs.Values.{Child, childExtent, childrenAt, childBytes, areaOf, startsOf, meaningOf}
 use Rattle.paper.specs.Words.{numbers, andThen, isThere}
-use Rattle.values.specs.Children.{childGood, allGood, insidesGood}
-use Rattle.values.specs.Layouts.{LaidOut}
-use Rattle.values.specs.declared.shape.Layout.{Layout}
+use Rattle.values.specs.Insides.{childGood, allGood, insidesGood}
+use Rattle.containers.specs.Layouts.{LaidOut}
+use Rattle.containers.specs.declared.shape.Layout.{Layout}
 use Rattle.dictionary.proofs.NumbersRunLaws.{rest}
 use Rattle.marking.proofs.MarkLaws.{marked-length, mark-append}
 use Rattle.paper.proofs.WordLaws.{never, and-both}
-use Rattle.values.proofs.ChildLaws.{withFirst, children-none, children-some}
-use Rattle.values.proofs.LayoutLaws.{area-same, starts-same, area-small, starts-there, starts-few}
-use Rattle.values.proofs.RunLaws.{Standing, standing-start, standing-there, standing-fits, standing-next, run-next, run-ended}
+use Rattle.containers.proofs.ChildLaws.{withFirst, children-none, children-some}
+use Rattle.containers.proofs.LayoutLaws.{area-same, starts-same, area-small, starts-there, starts-few}
+use Rattle.containers.proofs.RunLaws.{Standing, standing-start, standing-there, standing-fits, standing-next, run-next, run-ended}
 
 -- ---- one child more
 
@@ -65,10 +66,10 @@ pub record InsideSeen (levels : ℕ) (s : List ℕ) (c i w : ℕ) (area starts :
   pub most : w ≤ 4
   pub standing : Standing w count place k
   pub starts-in : count * w ≤ length starts
-  pub starts-small : length starts ≤ 65536
+  pub starts-small : length starts ≤ mostWalked
   pub same-area : area ≡ areaOf c i w s
   pub same-starts : numbers w count starts ≡ startsOf c i w s
-  pub small : length area ≤ 65536
+  pub small : length area ≤ mostWalked
   pub left-good : insidesGood (meaningOf levels names) area (childrenAt area (drop k (numbers w count starts))) ≡ true
   pub whole-is : markIds used₀ (idsInside (idsIn levels) area (childrenAt area (numbers w count starts)))
       ≡ markIds used (idsInside (idsIn levels) area (childrenAt area (drop k (numbers w count starts))))

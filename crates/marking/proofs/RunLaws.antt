@@ -9,7 +9,7 @@ use Rattle.marking.specs.Ids.{markIds}
 use Rattle.numbers.specs.Little.{numberAt}
 use Rattle.paper.specs.Words.{numbers, allBelow}
 use Rattle.dictionary.proofs.NumbersRunLaws.{run-length, below-at}
-use Rattle.values.proofs.RunLaws.{Standing, standing-start, standing-next, run-next, run-here, run-ended}
+use Rattle.containers.proofs.RunLaws.{Standing, standing-start, standing-next, run-next, run-here, run-ended}
 
 -- After i ids.
 pub record RunSeen (ids used₀ used : List ℕ) (width count place i : ℕ) : Type 0 where
@@ -31,13 +31,13 @@ module _ {ids used₀ used : List ℕ} {width count place i : ℕ} (seen : RunSe
         let same : length used ≡ length used₀ = seen .same-size in
         omega arith
 
-    pub run-marked : RunSeen ids used₀ (set used id 1) width count (place + width) (i + 1)
+    pub run-marked : (after : List ℕ) → after ≡ set used id 1 → RunSeen ids used₀ after width count (place + width) (i + 1)
     unfolding markIds
-    run-marked =
+    run-marked after e =
         record {
           standing = standing-next (seen .standing) ids least there h;
-          same-size = length-set used id 1 ∙ seen .same-size;
-          whole = seen .whole ∙ ap (markIds used) (run-next (seen .standing) ids least there h id is);
+          same-size = ap length e ∙ length-set used id 1 ∙ seen .same-size;
+          whole = rw e (seen .whole ∙ ap (markIds used) (run-next (seen .standing) ids least there h id is));
         }
 
   pub run-done : count ≤ i → used ≡ markIds used₀ (numbers width count ids)

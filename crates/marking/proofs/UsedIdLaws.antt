@@ -12,10 +12,11 @@ use lib.ListN.{length, getD, drop, length-drop, length-map}
 use Rattle.marking.specs.Ids.{idsOfAll, idsInside, idsBy, idsIn}
 use Rattle.names.specs.Used.{usedIn, usedInAll, usedInFields}
 use Rattle.numbers.specs.Little.{numberAt}
+use Rattle.paper.proofs.MeaningLaws.{prefixedDoc, string-is, prefixed-is}
 use Rattle.paper.specs.FirstBytes.{readingOf}
 use Rattle.paper.specs.Meaning.{boolean, payload, text, Doc, null, scalar, array, object, Docs, noDocs, doc, Fields, noFields, field}
 use Rattle.paper.specs.Metadata.{Dictionary, rising}
-use Rattle.paper.specs.Values.{Child, headSize, childBytes, areaOf, startsOf, idsOf, namesAt, elementsOf, membersOf, primitiveMeaning, prefixedMeaning, elementDocs, memberDocs, meaningBy, meaningOf, whole}
+use Rattle.paper.specs.Values.{Child, headSize, childBytes, areaOf, startsOf, idsOf, namesAt, elementsOf, membersOf, primitiveMeaning, elementDocs, memberDocs, meaningBy, meaningOf, whole}
 use Rattle.paper.specs.Words.{at, same, among, allBelow, isThere}
 use Rattle.paper.specs.declared.Reading.the-variants.{Fixed, Prefixed, Short, ObjectHead, ArrayHead, Nothing}
 use Rattle.paper.specs.declared.Reading.{Reading}
@@ -126,11 +127,6 @@ primitive-used (suc (suc (suc more))) s d e name =
     let type : ℕ = suc (suc (suc more)) in
     rw (← some-injective (scalar (payload type s)) d (given-some _ (some (scalar (payload type s))) e .1))
 
-prefixed-used : (b : Bool) (type : ℕ) (s name : List ℕ) → false ≡ usedIn name (prefixedMeaning b type s)
-unfolding prefixedMeaning usedIn
-prefixed-used true type s name = refl
-prefixed-used false type s name = refl
-
 unused : (names : Dictionary) (d : Doc) → ((name : List ℕ) → false ≡ usedIn name d) → Names names [] (λ name. usedIn name d)
 unused names d e = record { below = none-used names .below; exact = λ name. none-used names .exact name ∙ e name }
 
@@ -175,9 +171,8 @@ module _ (names : Dictionary) (inner : List ℕ → Option Doc) (ids : List ℕ 
   unfolding meaningBy idsBy isThere usedIn
   used-by d (Fixed type size) is e = unused names d (primitive-used type (drop 1 s) d e)
   used-by d (Prefixed type) is e =
-      let meant : Doc = prefixedMeaning (eqb type 16) type (drop 5 s) in
-      rw (← some-injective meant d e) (unused names meant (prefixed-used (eqb type 16) type (drop 5 s)))
-  used-by d (Short size) is e = rw (← some-injective (scalar (text (drop 1 s))) d e) (unused names (scalar (text (drop 1 s))) (λ name. refl))
+      rw (prefixed-is (eqb type 16) type (drop 5 s) e) (unused names (prefixedDoc (eqb type 16) type (drop 5 s)) (λ name. refl))
+  used-by d (Short size) is e = rw (string-is (drop 1 s) e) (unused names (scalar (text (drop 1 s))) (λ name. refl))
   used-by d (ObjectHead c i w) is e =
       let lie = then-some (membersOf names c i w s) _ e in
       let inside = then-some (memberDocs inner (areaOf c i w s) (namesAt names (idsOf c i s)) (lie .0)) _ (lie .2) in

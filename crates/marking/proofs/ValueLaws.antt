@@ -13,16 +13,17 @@ use Rattle.paper.specs.Values.{childrenAt, areaOf, startsOf, idsOf, namesAt, me
 use Rattle.paper.specs.Words.{at, isThere, numbers, allBelow}
 use Rattle.paper.specs.declared.Reading.the-variants.{Fixed, Prefixed, Short, ObjectHead, ArrayHead, Nothing}
 use Rattle.paper.specs.declared.Reading.{Reading}
-use Rattle.values.specs.Children.{onceIn, tiledIn, insidesGood}
-use Rattle.values.specs.Layouts.{Container, LaidOut}
-use Rattle.values.specs.declared.shape.Layout.{Layout}
+use Rattle.containers.specs.Children.{onceIn, tiledIn}
+use Rattle.values.specs.Insides.{insidesGood}
+use Rattle.containers.specs.Layouts.{Container, LaidOut}
+use Rattle.containers.specs.declared.shape.Layout.{Layout}
 use Rattle.dictionary.proofs.NumbersRunLaws.{rest}
 use Rattle.marking.proofs.MarkLaws.{marked-length, mark-append}
 use Rattle.paper.proofs.WordLaws.{never, there-given, and-both}
-use Rattle.values.proofs.LayoutLaws.{count-there, ids-starts-length, ids-there, ids-same}
+use Rattle.containers.proofs.LayoutLaws.{count-there, ids-starts-length, ids-there, ids-same}
 use Rattle.values.proofs.ValueLaws.{array-container, object-container, object-id, whole-some}
 use Rattle.values.proofs.VerdictLaws.{array-verdict, object-verdict}
-use Rattle.values.proofs.WalkLaws.{below-more}
+use Rattle.containers.proofs.WalkLaws.{below-more}
 
 -- What a lawful value tells: a level is left, it fills its bytes, and its first byte's rules hold one level further in.
 record Meant (levels : ℕ) (names : Dictionary) (s : List ℕ) : Type 0 where

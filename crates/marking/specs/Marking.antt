@@ -5,25 +5,26 @@ use mathlib.Core.Option.{Option, none, some}
 use mathlib.Core.Path.{_≡_}
 use Prim.Native.Nat.{ℕ, _≤_}
 use lib.ListN.{length}
+use Rattle.paper.specs.Bounds.{mostWalked}
 use Rattle.paper.specs.Metadata.{Dictionary}
 use Rattle.paper.specs.Values.{childExtent, childrenAt, childBytes, areaOf, startsOf, meaningOf}
 use Rattle.paper.specs.Words.{isThere}
-use Rattle.values.specs.Children.{childGood, insidesGood}
-use Rattle.values.specs.Layouts.{Container}
+use Rattle.values.specs.Insides.{childGood, insidesGood}
+use Rattle.containers.specs.Layouts.{Container}
 
 -- Of a value, within so many levels, and a table of a size.
 pub record Markable (levels : ℕ) (s : List ℕ) (size : ℕ) : Type 0 where
   pub names : Dictionary
   pub meant : isThere (meaningOf levels names s) ≡ true
   pub room : length names ≤ size
-  pub small : length s ≤ 65536
+  pub small : length s ≤ mostWalked
 
 -- Of the child at a start.
 pub record MarkableChild (levels : ℕ) (area : List ℕ) (start size : ℕ) : Type 0 where
   pub names : Dictionary
   pub good : childGood (meaningOf levels names) area start ≡ true
   pub room : length names ≤ size
-  pub small : length area ≤ 65536
+  pub small : length area ≤ mostWalked
 
 -- Of a container's children.
 pub record MarkableInside (levels : ℕ) (s : List ℕ) (counted id width size : ℕ) : Type 0 where

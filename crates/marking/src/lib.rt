@@ -1,15 +1,36 @@
 // Which names of a dictionary a value uses: the ids inside a lawful value, marked in a table in one walk.
 ghost use mathlib.Core.Path.{_≡_};
 ghost use mathlib.Core.Bool.{true};
-ghost use Prim.Native.Nat.{_*_, _≤_};
-ghost use lib.ListN.{length};
+ghost use Prim.Native.Nat.{_*_, _≤_, _<_};
+ghost use lib.Dec.{eqb};
+ghost use lib.ListN.{length, getD, set};
 ghost use Rattle.paper.specs.Words.{numbers, allBelow};
 ghost use Rattle.paper.specs.Values.{areaOf, startsOf, childrenAt};
 ghost use Rattle.heads.specs.Packing.{Readings};
 ghost use Rattle.marking.specs.Ids.{idsInside, idsIn, markIds};
 ghost use Rattle.marking.specs.Marking.{Markable, MarkableChild, MarkableInside, idsAt};
+use dictionary::InputId;
+use dictionary::input_id_at;
 use heads::Extent;
 use paper::Reading;
+
+// An id is marked.
+pub fn is_used(used: &[u8], id: InputId) -> bool
+    requires { ⌜ id .0 < length (now used) ⌝ }
+    ensures { λ r. ⌜ r ≡ eqb (getD (now (used .entry)) (id .0) 0) 1 ⌝ }
+{
+    let place = id.0;
+    used[place] == 1
+}
+
+// Marks an id.
+fn mark_id(used: &mut [u8], id: InputId)
+    requires { ⌜ id .0 < length (now used) ⌝ }
+    ensures { λ _. ⌜ now (used .exit) ≡ set (now (used .entry)) (id .0) 1 ⌝ }
+{
+    let place = id.0;
+    used[place] = 1;
+}
 
 // Marks the ids that stand one after another, so many.
 fn mark_run(ids: &[u8], width: usize, count: usize, used: &mut [u8])
@@ -19,8 +40,7 @@ fn mark_run(ids: &[u8], width: usize, count: usize, used: &mut [u8])
     let mut place = 0;
     let mut i = 0;
     while i < count {
-        let id = numbers::read(ids, place, width);
-        used[id] = 1;
+        mark_id(used, input_id_at(ids, place, width));
         place += width;
         i += 1;
     }
@@ -34,7 +54,7 @@ fn child(levels: usize, readings: &[u8], area: &[u8], start: usize, used: &mut [
     if area[start] % 4 < 2 {
         return;
     }
-    let Extent::Size(size) = values::child_extent(readings, area, start) else {
+    let Extent::Size(size) = containers::child_extent(readings, area, start) else {
         return;
     };
     let end = start + size;
@@ -54,7 +74,7 @@ fn children(
     requires { ⌜ Readings (now readings) × MarkableInside levels (now s) counted id width (length (now used)) ⌝ }
     ensures { λ _. ⌜ now (used .exit) ≡ markIds (now (used .entry)) (idsInside (idsIn levels) (areaOf counted id width (now (s .entry))) (childrenAt (areaOf counted id width (now (s .entry))) (startsOf counted id width (now (s .entry))))) ⌝ }
 {
-    let l = values::layout_of(s, counted, id, width);
+    let l = containers::layout_of(s, counted, id, width);
     let from = l.area;
     let at = l.starts;
     let count = l.count;
@@ -81,7 +101,7 @@ pub fn mark(levels: usize, readings: &[u8], s: &[u8], used: &mut [u8])
         Reading::Prefixed { code: _ } => {}
         Reading::Short { size: _ } => {}
         Reading::ObjectHead { count, id, offset } => {
-            let l = values::layout_of(s, count, id, offset);
+            let l = containers::layout_of(s, count, id, offset);
             let at = 1 + count;
             mark_run(&s[at..], id, l.count, used);
             children(levels - 1, readings, s, count, id, offset, used);

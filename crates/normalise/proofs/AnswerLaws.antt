@@ -9,12 +9,13 @@ use lib.Dec.{leb}
 use lib.ListN.{length}
 use Rattle.normalise.specs.Answered.{Answered}
 use Rattle.numbers.specs.Little.{putAt}
+use Rattle.paper.specs.Bounds.{mostNames}
 use Rattle.paper.specs.Limits.{mostValue}
 use Rattle.paper.specs.Meaning.{Doc}
 use Rattle.paper.specs.Metadata.{Dictionary}
 use Rattle.paper.specs.Normal.{Document, namesUsed, metadataBytes, normalForm}
-use Rattle.paper.specs.Operations.{written, documentRoom, documentAnswer, metadataWritten, valueWritten}
-use Rattle.paper.specs.Refusals.{Outcome, refused, reached, unless}
+use Rattle.paper.specs.Operations.{written, documentRoom, documentAnswer, metadataWritten, valueWritten, writable}
+use Rattle.paper.specs.Refusals.{Outcome, refused, reached, require}
 use Rattle.paper.specs.declared.DocumentAnswer.the-variants.{Done, Short, Refused}
 use Rattle.paper.specs.declared.DocumentAnswer.{DocumentAnswer}
 use Rattle.paper.specs.declared.Refusal.the-variants.{TooLarge}
@@ -25,18 +26,18 @@ kept : (l : List ℕ) (new : List ℕ) → new ≡ [] → l ≡ putAt l 0 new
 kept l new e = sym (ap (putAt l 0) e ∙ put-none l 0)
 
 module _ (d : Doc) (value : List ℕ) (is : value ≡ normalForm d .value) (first second : List ℕ) where
-  large : 16384 < length value → written d ≡ refused TooLarge
-  unfolding written unless mostValue
+  large : mostValue < length value → written d ≡ refused TooLarge
+  unfolding written writable require
   large h =
-      let long : 16384 < length (normalForm d .value) = rw (← is) h in
-      rw (lt-leb (length (normalForm d .value)) 16384 long)
+      let long : mostValue < length (normalForm d .value) = rw (← is) h in
+      rw (lt-leb (length (normalForm d .value)) mostValue long)
 
-  pub answer-large : 16384 < length value → Answered (written d) first first second second (Refused TooLarge)
+  pub answer-large : mostValue < length value → Answered (written d) first first second second (Refused TooLarge)
   unfolding documentAnswer metadataWritten valueWritten
   answer-large h = rw (large h) (record { answer-is = refl; metadata-is = kept first [] refl; value-is = kept second [] refl })
 
   -- the names are those used, and the size is that of their metadata
-  module _ (fits : length value ≤ 16384) (names : Dictionary) (used : names ≡ namesUsed d) (size : ℕ) (told : size ≡ length (metadataBytes names)) where
+  module _ (fits : length value ≤ mostValue) (names : Dictionary) (used : names ≡ namesUsed d) (size : ℕ) (told : size ≡ length (metadataBytes names)) where
     metadata-is-normal : metadataBytes names ≡ normalForm d .metadata
     unfolding normalForm
     metadata-is-normal = ap metadataBytes used
@@ -45,10 +46,10 @@ module _ (d : Doc) (value : List ℕ) (is : value ≡ normalForm d .value) (firs
     size-is = told ∙ ap length metadata-is-normal
 
     fitting : written d ≡ reached (normalForm d)
-    unfolding written unless mostValue
+    unfolding written writable require
     fitting =
-        let short : length (normalForm d .value) ≤ 16384 = rw (← is) fits in
-        rw (le-leb (length (normalForm d .value)) 16384 short)
+        let short : length (normalForm d .value) ≤ mostValue = rw (← is) fits in
+        rw (le-leb (length (normalForm d .value)) mostValue short)
 
     no-room : documentRoom (normalForm d) (length first) (length second) ≡ false
         → Answered (written d) first first second second (Short size (length value))

@@ -58,7 +58,7 @@ unfolding shortened
 unshortened type s h = rw (lt-leb (length s) 68 h, and-false (eqb type 16))
 
 prefixed-same : (ranks s : List ℕ) (type : ℕ) → readingOf (at s 0) ≡ Prefixed type → 68 < length s → rewritten mostLevels ranks s ≡ s
-unfolding mostLevels rewritten rewrittenBy
+unfolding rewritten rewrittenBy
 prefixed-same ranks s type e h = ap (λ (r : Reading). rewrittenBy (rewritten 15 ranks) ranks r s) e ∙ unshortened type s h
 
 stands-same : (ranks s : List ℕ) → standing s ≡ true → rewritten mostLevels ranks s ≡ s

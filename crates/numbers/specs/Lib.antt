@@ -1,3 +1,2 @@
 -- Numbers in bytes: what a reader must believe of them.
 pub mod Little
-pub mod Signed

@@ -2,6 +2,7 @@
 use mathlib.Core.Path.{refl}
 use Rattle.paper.specs.Running.{running}
 use Rattle.paper.specs.Lots.{allHold, starred, tempting}
+use Rattle.paper.specs.RowLots.{ruled}
 
 pub starred-hold : allHold starred
 unfolding running allHold starred
@@ -10,3 +11,7 @@ starred-hold = (refl, (refl, (refl, (refl, (refl, (refl, (refl, (refl, (refl, (r
 pub tempting-hold : allHold tempting
 unfolding running allHold tempting
 tempting-hold = (refl, (refl, (refl, (refl, (refl, (refl, (refl, (refl, (refl, (refl, tt))))))))))
+
+pub ruled-hold : allHold ruled
+unfolding running allHold ruled
+ruled-hold = (refl, (refl, (refl, (refl, (refl, (refl, (refl, (refl, (refl, (refl, (refl, (refl, (refl, (refl, (refl, tt)))))))))))))))

@@ -8,7 +8,7 @@ use lib.Ieee.{Float, ofBits, le, binary64}
 use Rattle.numbers.specs.Little.{number}
 use Rattle.paper.specs.Words.{given, andThen}
 use Rattle.paper.specs.Meaning.{Scalar, boolean, payload, text, Doc, null, scalar, array, object, Fields}
-use Rattle.paper.specs.Shredding.{fieldAt}
+use Rattle.paper.specs.Standing.{fieldAt}
 use Rattle.paper.specs.declared.LotBox.{LotBox}
 
 -- The four names, in ASCII.

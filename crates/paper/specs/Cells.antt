@@ -7,25 +7,26 @@ use lib.Dec.{leb, eqb}
 use lib.Ieee.{ofBits, nanBits, binary32, binary64}
 use lib.ListN.{length, take, drop, getD}
 use Rattle.numbers.specs.Little.{number}
-use Rattle.numbers.specs.Signed.{signedOf}
+use Rattle.signed.specs.Signed.{signedOf}
 use Rattle.paper.specs.Words.{at, given}
 use Rattle.paper.specs.FirstBytes.{payloadSizes}
-use Rattle.paper.specs.Meaning.{Scalar, boolean, payload, text}
+use Rattle.paper.specs.Meaning.{Scalar, boolean, payload, text, textMeaning}
+use Rattle.paper.specs.Schemas.{Column}
 use Rattle.paper.specs.declared.Cell.{Cell}
 use Rattle.paper.specs.declared.Cell.the-variants.{Boolean, Integer, Float, Double, FloatNan, DoubleNan, Length, Uuid}
 
 -- A value enters a typed column exactly when its type is that column's. A boolean's code is 1, a string's 16.
-unfoldable pub takes : (code : ℕ) → Scalar → Bool
-takes code (boolean b) = eqb code 1
-takes code (payload type s) = eqb code type
-takes code (text s) = eqb code 16
+unfoldable pub takes : Column → Scalar → Bool
+takes column (boolean b) = eqb (column .code) 1
+takes column (payload type s) = eqb (column .code) type
+takes column (text s) = eqb (column .code) 16
 
 -- Typed body: a primitive's payload (string and binary without their length, boolean `00` false or `01` true).
-unfoldable pub cellBytes : Scalar → List ℕ
-cellBytes (boolean false) = 0 ∷ []
-cellBytes (boolean true) = 1 ∷ []
-cellBytes (payload type s) = s
-cellBytes (text s) = s
+unfoldable pub cellBytes : Column → Scalar → List ℕ
+cellBytes column (boolean false) = 0x00 ∷ []
+cellBytes column (boolean true) = 0x01 ∷ []
+cellBytes column (payload type s) = s
+cellBytes column (text s) = s
 
 -- The kinds of cell bodies.
 pub data BodyKind : Type 0 where
@@ -36,13 +37,13 @@ bodyKind code = cond (eqb code 1) yesNo (cond (eqb code 15) binary (cond (eqb co
 
 unfoldable pub cellBy : BodyKind → (code : ℕ) → List ℕ → Option Scalar
 cellBy yesNo code s = given (eqb (length s) 1 && leb (at s 0) 1) (some (boolean (eqb (at s 0) 1)))
-cellBy string code s = some (text s)
+cellBy string code s = textMeaning s
 cellBy binary code s = some (payload code s)
 cellBy sized code s = given (eqb (length s) (getD payloadSizes code 0)) (some (payload code s))
 
--- What a cell's bytes mean under its column's code, if they have the right size and content.
-unfoldable pub cellMeaning : (code : ℕ) → List ℕ → Option Scalar
-cellMeaning code s = cellBy (bodyKind code) code s
+-- What a cell's bytes mean in its column, if they have the right size and content.
+unfoldable pub cellMeaning : Column → List ℕ → Option Scalar
+cellMeaning column s = cellBy (bodyKind (column .code)) (column .code) s
 
 -- ---- "A cell, given a type code and its bytes, is handed out by kind" (01, Two readers)
 

@@ -1,10 +1,13 @@
 -- Document 01, a file to a paragraph, in its order.
 pub mod Words
 pub mod Limits
+pub mod Constants
+pub mod Bounds
 pub mod Refusals
 pub mod Metadata
 pub mod FirstBytes
 pub mod Meaning
+pub mod Standing
 pub mod Values
 pub mod Normal
 pub mod Framing
@@ -20,3 +23,4 @@ pub mod Operations
 pub mod Answers
 pub mod Running
 pub mod Lots
+pub mod RowLots

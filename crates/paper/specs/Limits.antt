@@ -1,29 +1,30 @@
--- "What a register may hold" (01): the most bytes of each input, and the most levels.
+-- "What a register may hold" (01): the most bytes of each input, and the most levels. The code's constants are shown to be
+-- these numbers where they stand (`src/lib.rt`); contracts and laws say the names.
 use Prim.Native.Nat.{ℕ}
 
-unfoldable pub mostMetadata : ℕ
+abbrev pub mostMetadata : ℕ
 mostMetadata = 16384
 
-unfoldable pub mostValue : ℕ
+abbrev pub mostValue : ℕ
 mostValue = 16384
 
-unfoldable pub mostSchema : ℕ
+abbrev pub mostSchema : ℕ
 mostSchema = 4096
 
-unfoldable pub mostPath : ℕ
+abbrev pub mostPath : ℕ
 mostPath = 1024
 
-unfoldable pub mostRow : ℕ
+abbrev pub mostRow : ℕ
 mostRow = 65535
 
 -- A cell lent to its reader; a cell inside a row has no limit of its own.
-unfoldable pub mostCell : ℕ
+abbrev pub mostCell : ℕ
 mostCell = 16384
 
 -- A leftover in a row, like the value that it is.
-unfoldable pub mostLeftover : ℕ
+abbrev pub mostLeftover : ℕ
 mostLeftover = 16384
 
 -- The outermost value is level 1; schemas likewise, counted by nodes.
-unfoldable pub mostLevels : ℕ
+abbrev pub mostLevels : ℕ
 mostLevels = 16

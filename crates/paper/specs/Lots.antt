@@ -33,7 +33,7 @@ allHold (lot ∷ lots) = holds lot × allHold lots
 
 -- ---- names for bytes that stand in several lots
 
-noNames : List ℕ
+unfoldable pub noNames : List ℕ
 noNames = 0x01 ∷ 0x00 ∷ 0x00 ∷ []
 
 namesBA : List ℕ
@@ -44,7 +44,7 @@ nullAndTrue : Doc
 nullAndTrue = object (field (0x61 ∷ []) null (field (0x62 ∷ []) (scalar (boolean true)) noFields))
 
 -- a boolean column named a
-columnA : List ℕ
+unfoldable pub columnA : List ℕ
 columnA = 0x30 ∷ 0x0B ∷ 0x00 ∷ 0x31 ∷ 0x08 ∷ 0x00 ∷ 0x32 ∷ 0x01 ∷ 0x00 ∷ 0x61 ∷ 0x10 ∷ 0x01 ∷ 0x00 ∷ 0x01 ∷ []
 
 -- ---- the starred lots
@@ -74,7 +74,7 @@ starred =
 -- ---- lots that a tempting wrong reading would answer otherwise
 
 -- null inside so many arrays
-nested : ℕ → List ℕ
+unfoldable pub nested : ℕ → List ℕ
 nested zero = 0x00 ∷ []
 nested (suc n) = arrayBytes (nested n ∷ [])
 

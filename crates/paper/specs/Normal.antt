@@ -15,7 +15,9 @@ use Rattle.paper.specs.Meaning.{Scalar, boolean, payload, text, Doc, nul
 
 -- ---- the dictionary: exactly the names used, rising
 
-unfoldable pub insertBy : Order → List ℕ → List ℕ → Dictionary → Dictionary → Dictionary
+-- By how a name compares with the first of some rising names: in front of it, already there, or somewhere behind it;
+-- `inserted` is what putting it among the names behind gives.
+unfoldable pub insertBy : Order → (name first : List ℕ) → (more inserted : Dictionary) → Dictionary
 insertBy Less name first more inserted = name ∷ first ∷ more
 insertBy Equal name first more inserted = first ∷ more
 insertBy Greater name first more inserted = first ∷ inserted
@@ -53,7 +55,7 @@ unfoldable pub numbersBytes : ℕ → List ℕ → List ℕ
 numbersBytes width [] = []
 numbersBytes width (n ∷ ns) = numberBytes width n ++ numbersBytes width ns
 
--- ---- metadata: flag set, smallest offset size that holds count and total
+-- ---- metadata: flag set (`11`: version 1, sorted), smallest offset size that holds count and total
 
 unfoldable pub metadataWidth : Dictionary → ℕ
 metadataWidth names = smallestWidth (max (length names) (length (joined names)))
@@ -61,19 +63,22 @@ metadataWidth names = smallestWidth (max (length names) (length (joined names)))
 unfoldable pub metadataBytes : Dictionary → List ℕ
 metadataBytes names =
     let width = metadataWidth names in
-    (17 + 64 * (width - 1)) ∷ numberBytes width (length names) ++ (numbersBytes width (offsetsFrom 0 names) ++ joined names)
+    (0x11 + 0x40 * (width - 1)) ∷ numberBytes width (length names) ++ (numbersBytes width (offsetsFrom 0 names) ++ joined names)
 
--- ---- scalars: strings short up to 63 bytes; binary is type 15
+-- ---- scalars. A first byte has its kind in the low two bits (`00` primitive, `01` short string, `02` object, `03` array) and
+-- the rest, four times over, above them.
 
-unfoldable pub prefixedBytes : ℕ → List ℕ → List ℕ
+-- Binary is type 15, a long string type 16: four bytes of length, then the bytes.
+unfoldable pub prefixedBytes : (type : ℕ) → List ℕ → List ℕ
 prefixedBytes type s = (4 * type) ∷ numberBytes 4 (length s) ++ s
 
+-- Strings are short up to 63 bytes.
 unfoldable pub textBytes : List ℕ → List ℕ
 textBytes s = cond (leb (length s) 63) ((4 * length s + 1) ∷ s) (prefixedBytes 16 s)
 
 unfoldable pub scalarBytes : Scalar → List ℕ
-scalarBytes (boolean true) = 4 ∷ []
-scalarBytes (boolean false) = 8 ∷ []
+scalarBytes (boolean true) = 0x04 ∷ []
+scalarBytes (boolean false) = 0x08 ∷ []
 scalarBytes (payload type s) = cond (eqb type 15) (prefixedBytes type s) ((4 * type) ∷ s)
 scalarBytes (text s) = textBytes s
 
@@ -91,7 +96,7 @@ unfoldable pub arrayBytes : List (List ℕ) → List ℕ
 arrayBytes parts =
     let large = largeBit (length parts) in
     let width = smallestWidth (length (joined parts)) in
-    (3 + 4 * (width - 1) + 16 * large)
+    (0x03 + 0x04 * (width - 1) + 0x10 * large)
     ∷ numberBytes (countSize large) (length parts) ++ (numbersBytes width (offsetsFrom 0 parts) ++ joined parts)
 
 unfoldable pub objectBytes : List ℕ → List (List ℕ) → List ℕ
@@ -99,7 +104,7 @@ objectBytes ids parts =
     let large = largeBit (length parts) in
     let idWidth = smallestWidth (largest ids) in
     let width = smallestWidth (length (joined parts)) in
-    (2 + 4 * (width - 1) + 16 * (idWidth - 1) + 64 * large)
+    (0x02 + 0x04 * (width - 1) + 0x10 * (idWidth - 1) + 0x40 * large)
     ∷ numberBytes (countSize large) (length parts)
     ++ (numbersBytes idWidth ids ++ (numbersBytes width (offsetsFrom 0 parts) ++ joined parts))
 
@@ -116,7 +121,7 @@ fieldNames (field name d fs) = name ∷ fieldNames fs
 
 unfoldable mutual
   pub valueBytes : Dictionary → Doc → List ℕ
-  valueBytes names null = 0 ∷ []
+  valueBytes names null = 0x00 ∷ []
   valueBytes names (scalar s) = scalarBytes s
   valueBytes names (array ds) = arrayBytes (elementBytes names ds)
   valueBytes names (object fs) = objectBytes (map (idOf names) (fieldNames fs)) (memberBytes names fs)

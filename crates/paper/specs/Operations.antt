@@ -7,12 +7,12 @@ use Prim.Native.Nat.{ℕ}
 use lib.Dec.{leb}
 use lib.ListN.{length}
 use Rattle.paper.specs.Limits.{mostMetadata, mostValue, mostSchema, mostPath, mostRow, mostCell, mostLevels}
-use Rattle.paper.specs.Refusals.{Outcome, refused, reached, unless, orElse}
+use Rattle.paper.specs.Refusals.{Outcome, refused, reached, require, obtain}
 use Rattle.paper.specs.Metadata.{Dictionary, dictionaryOf}
 use Rattle.paper.specs.Meaning.{Doc}
 use Rattle.paper.specs.Values.{Child, meaningOf}
 use Rattle.paper.specs.Normal.{Document, normalForm}
-use Rattle.paper.specs.Schemas.{columnCode, schemaOf}
+use Rattle.paper.specs.Schemas.{columnOf, schemaOf}
 use Rattle.paper.specs.Cells.{cellMeaning, handedOut}
 use Rattle.paper.specs.Rows.{rowOf}
 use Rattle.paper.specs.Rules.{rowLawful}
@@ -31,12 +31,13 @@ use Rattle.paper.specs.declared.CellAnswer.{CellAnswer}
 use Rattle.paper.specs.declared.LotBox.{LotBox}
 use Rattle.paper.specs.declared.BoxAnswer.{BoxAnswer}
 
+-- A lent value judged under its dictionary, and what comes of its meaning. The outermost value is level 1.
+unfoldable pub valueJudged : {A : Type 0} → Dictionary → List ℕ → (Doc → Outcome A) → Outcome A
+valueJudged names value next = obtain (meaningOf mostLevels names value) BadValue next
+
 -- A lent document judged, 2 and then 3, and what comes of its dictionary and its meaning.
 unfoldable pub judged : {A : Type 0} → List ℕ → List ℕ → (Dictionary → Doc → Outcome A) → Outcome A
-judged metadata value next =
-    orElse BadMetadata (dictionaryOf metadata) λ names.
-    orElse BadValue (meaningOf mostLevels names value) λ d.
-    next names d
+judged metadata value next = obtain (dictionaryOf metadata) BadMetadata λ names. valueJudged names value (next names)
 
 -- Metadata and value are no longer than they may be.
 unfoldable pub documentFits : List ℕ → List ℕ → Bool
@@ -46,7 +47,7 @@ documentFits metadata value = leb (length metadata) mostMetadata && leb (length 
 
 unfoldable pub checkOutcome : List ℕ → List ℕ → Outcome Doc
 checkOutcome metadata value =
-    unless TooLong (documentFits metadata value) (judged metadata value λ names d. reached d)
+    require (documentFits metadata value) TooLong (judged metadata value λ names d. reached d)
 
 unfoldable pub checkedBy : Outcome Doc → Checked
 checkedBy (refused r) = Checked.Refused r
@@ -59,8 +60,8 @@ checkAnswer metadata value = checkedBy (checkOutcome metadata value)
 
 unfoldable pub findOutcome : List ℕ → List ℕ → List ℕ → Outcome (Option Child)
 findOutcome metadata value path =
-    unless TooLong (documentFits metadata value && leb (length path) mostPath)
-    (judged metadata value λ names d. orElse BadPath (pathOf path) λ steps. reached (findFrom names steps 0 value))
+    require (documentFits metadata value && leb (length path) mostPath) TooLong
+    (judged metadata value λ names d. obtain (pathOf path) BadPath λ steps. reached (findFrom names steps 0 value))
 
 unfoldable pub foundBy : Outcome (Option Child) → Found
 foundBy (refused r) = Found.Refused r
@@ -70,10 +71,14 @@ foundBy (reached (some child)) = Found.At (child .start) (child .size)
 unfoldable pub findAnswer : List ℕ → List ℕ → List ℕ → Found
 findAnswer metadata value path = foundBy (findOutcome metadata value path)
 
--- ---- a document to be written: the normal form, if its value is no longer than a value may be
+-- ---- a document to be written: its normal form, if it may be written
+
+-- Its normal value is no longer than a value may be.
+unfoldable pub writable : Doc → Bool
+writable d = leb (length (normalForm d .value)) mostValue
 
 unfoldable pub written : Doc → Outcome Document
-written d = unless TooLarge (leb (length (normalForm d .value)) mostValue) (reached (normalForm d))
+written d = require (writable d) TooLarge (reached (normalForm d))
 
 -- Into two buffers: both must have room.
 unfoldable pub documentRoom : Document → (metadataRoom valueRoom : ℕ) → Bool
@@ -102,16 +107,16 @@ valueWritten (reached document) metadataRoom valueRoom =
 
 unfoldable pub normaliseOutcome : List ℕ → List ℕ → Outcome Document
 normaliseOutcome metadata value =
-    unless TooLong (documentFits metadata value) (judged metadata value λ names d. written d)
+    require (documentFits metadata value) TooLong (judged metadata value λ names d. written d)
 
 -- ---- shred
 
 unfoldable pub shredOutcome : List ℕ → List ℕ → List ℕ → Outcome (List ℕ)
 shredOutcome schema metadata value =
-    unless TooLong (leb (length schema) mostSchema && documentFits metadata value)
+    require (leb (length schema) mostSchema && documentFits metadata value) TooLong
     (judged metadata value λ names d.
-    orElse BadSchema (schemaOf schema) λ node.
-    unless TooLarge (leb (length (normalForm d .value)) mostValue && leb (length (rowBytes node d)) mostRow)
+    obtain (schemaOf schema) BadSchema λ node.
+    require (writable d && leb (length (rowBytes node d)) mostRow) TooLarge
     (reached (rowBytes node d)))
 
 unfoldable pub rowAnswer : Outcome (List ℕ) → (room : ℕ) → RowAnswer
@@ -126,17 +131,19 @@ rowWritten (reached row) room = cond (leb (length row) room) row []
 
 unfoldable pub rebuildOutcome : List ℕ → List ℕ → Outcome Document
 rebuildOutcome schema row =
-    unless TooLong (leb (length schema) mostSchema && leb (length row) mostRow)
-    (orElse BadSchema (schemaOf schema) λ node.
-    orElse BadRow (rowOf node row) λ parsed.
-    unless BrokenRule (rowLawful node parsed) (written (rowMeaning node parsed)))
+    require (leb (length schema) mostSchema && leb (length row) mostRow) TooLong
+    (obtain (schemaOf schema) BadSchema λ node.
+    obtain (rowOf node row) BadRow λ parsed.
+    require (rowLawful node parsed) BrokenRule (written (rowMeaning node parsed)))
 
--- ---- one typed cell: a type code is one of a schema's
+-- ---- one typed cell: "the type codes are those of a schema"
 
 unfoldable pub cellOutcome : (code : ℕ) → List ℕ → Outcome Cell
 cellOutcome code s =
-    unless TooLong (leb (length s) mostCell)
-    (unless BadSchema (columnCode code) (orElse BadRow (cellMeaning code s) λ value. reached (handedOut value)))
+    require (leb (length s) mostCell) TooLong
+    (obtain (columnOf (code ∷ [])) BadSchema λ column.
+    obtain (cellMeaning column s) BadRow λ value.
+    reached (handedOut value))
 
 unfoldable pub cellReadBy : Outcome Cell → CellAnswer
 cellReadBy (refused r) = CellAnswer.Refused r
@@ -149,7 +156,7 @@ cellAnswer code s = cellReadBy (cellOutcome code s)
 
 unfoldable pub boxOutcome : List ℕ → List ℕ → Outcome (Option LotBox)
 boxOutcome metadata value =
-    unless TooLong (documentFits metadata value) (judged metadata value λ names d. reached (boxOf d))
+    require (documentFits metadata value) TooLong (judged metadata value λ names d. reached (boxOf d))
 
 unfoldable pub boxReadBy : Outcome (Option LotBox) → BoxAnswer
 boxReadBy (refused r) = BoxAnswer.Refused r

@@ -13,10 +13,7 @@ use Rattle.paper.specs.declared.Reading.{Reading}
 use Rattle.paper.specs.declared.Reading.the-variants.{Fixed, Prefixed, Short, ObjectHead, ArrayHead, Nothing}
 use Rattle.paper.specs.Values.{Child, childBytes, headSize, membersOf, elementsOf, namesAt, idsOf}
 use Rattle.paper.specs.Framing.{Piece, piecesOf}
-
-pub data Step : Type 0 where
-  byName : List ℕ → Step
-  byIndex : ℕ → Step
+use Rattle.paper.specs.Standing.{Step, byName, byIndex}
 
 unfoldable pub stepOf : Piece → Option Step
 stepOf piece =

@@ -11,6 +11,8 @@ use Rattle.paper.specs.Rows.{Place, empty, leftover, typed, both, Typed,
 
 -- ---- an object's typed and leftover fields together, names rising
 
+-- As `insertBy` of `Normal.antt`: by how the name compares with the first one; `inserted` is what going on behind the first
+-- one gives. A lawful row never has the same name twice (rule c).
 unfoldable pub insertFieldBy : Order → List ℕ → Doc → List ℕ → Doc → Fields → Fields → Fields
 insertFieldBy Less name d first e more inserted = field name d (field first e more)
 insertFieldBy Equal name d first e more inserted = field name d more
@@ -39,12 +41,23 @@ orNull none = null
 orNull (some d) = d
 
 -- What a place means, by what its typed body means.
-unfoldable pub placeMeaning : (Typed → Doc) → Place → Option Doc
-placeMeaning typedMeans empty = none
-placeMeaning typedMeans (leftover d) = some d
-placeMeaning typedMeans (typed t) = some (typedMeans t)
-placeMeaning typedMeans (both d t) = some (object (merge (fieldsIn d) (fieldsIn (typedMeans t))))
+unfoldable pub placeMeaningBy : (Typed → Doc) → Place → Option Doc
+placeMeaningBy typedMeans empty = none
+placeMeaningBy typedMeans (leftover d) = some d
+placeMeaningBy typedMeans (typed t) = some (typedMeans t)
+placeMeaningBy typedMeans (both d t) = some (object (merge (fieldsIn d) (fieldsIn (typedMeans t))))
 
+-- A cell. (Where one belongs, a row that parsed has no inner places.)
+unfoldable pub cellDoc : Typed → Doc
+cellDoc (cell said value) = scalar value
+cellDoc (inner ps) = null
+
+-- Inner places, by what they mean. (Where they belong, a row that parsed has no cell.)
+unfoldable pub innerDoc : (Places → Doc) → Typed → Doc
+innerDoc placesMean (inner ps) = placesMean ps
+innerDoc placesMean (cell said value) = null
+
+-- A list's elements, by what a place means. (A lawful row has no empty one.)
 unfoldable pub listMeaning : (Place → Option Doc) → Places → Docs
 listMeaning means noPlaces = noDocs
 listMeaning means (place p ps) = doc (orNull (means p)) (listMeaning means ps)
@@ -53,22 +66,20 @@ unfoldable pub addField : List ℕ → Option Doc → Fields → Fields
 addField name none fs = fs
 addField name (some d) fs = field name d fs
 
+-- What a place under a node means; nothing if it is empty. (Under node `00` a row that parsed has nothing typed.)
 unfoldable mutual
-  pub typedMeaning : Schema → Typed → Doc
-  typedMeaning leftoverOnly t = null
-  typedMeaning (column code) (cell value) = scalar value
-  typedMeaning (column code) (inner ps) = null
-  typedMeaning (list element) (cell value) = null
-  typedMeaning (list element) (inner ps) = array (listMeaning (placeMeaning (λ t. typedMeaning element t)) ps)
-  typedMeaning (fields columns) (cell value) = null
-  typedMeaning (fields columns) (inner ps) = object (fieldsMeaning columns ps)
+  pub placeMeaning : Schema → Place → Option Doc
+  placeMeaning leftoverOnly = placeMeaningBy cellDoc
+  placeMeaning (column said) = placeMeaningBy cellDoc
+  placeMeaning (list element) = placeMeaningBy (innerDoc (λ ps. array (listMeaning (λ p. placeMeaning element p) ps)))
+  placeMeaning (fields columns) = placeMeaningBy (innerDoc (λ ps. object (fieldsMeaning columns ps)))
 
+  -- An object's fields. (A row that parsed has as many places as the node has fields.)
   pub fieldsMeaning : SchemaFields → Places → Fields
   fieldsMeaning noColumns ps = noFields
   fieldsMeaning (named name node columns) noPlaces = noFields
-  fieldsMeaning (named name node columns) (place p ps) =
-      addField name (placeMeaning (λ t. typedMeaning node t) p) (fieldsMeaning columns ps)
+  fieldsMeaning (named name node columns) (place p ps) = addField name (placeMeaning node p) (fieldsMeaning columns ps)
 
 -- What a row means: an empty outermost place rebuilds to null.
 unfoldable pub rowMeaning : Schema → Row → Doc
-rowMeaning schema row = orNull (placeMeaning (typedMeaning schema) (row .outermost))
+rowMeaning schema row = orNull (placeMeaning schema (row .outermost))

@@ -22,11 +22,12 @@ pub data Outcome {ℓ} (A : Type ℓ) : Type ℓ where
   reached : A → Outcome A
 
 -- "Where several apply, the lowest number is given": an operation judges in the order of the numbers, and the first
--- refusal stands. `unless` judges a test, `orElse` something that has to be there; both then go on.
-unfoldable pub unless {ℓ} : {A : Type ℓ} → Refusal → Bool → Outcome A → Outcome A
-unless refusal true next = next
-unless refusal false next = refused refusal
+-- refusal stands. `require` asks that a test passes, `obtain` that something is there. Each names the refusal that is given
+-- otherwise, and then goes on.
+unfoldable pub require {ℓ} : {A : Type ℓ} → Bool → Refusal → Outcome A → Outcome A
+require true refusal next = next
+require false refusal next = refused refusal
 
-unfoldable pub orElse {ℓ κ} : {A : Type ℓ} {B : Type κ} → Refusal → Option A → (A → Outcome B) → Outcome B
-orElse refusal none next = refused refusal
-orElse refusal (some a) next = next a
+unfoldable pub obtain {ℓ κ} : {A : Type ℓ} {B : Type κ} → Option A → Refusal → (A → Outcome B) → Outcome B
+obtain none refusal next = refused refusal
+obtain (some a) refusal next = next a

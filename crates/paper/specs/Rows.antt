@@ -11,11 +11,11 @@ use Rattle.paper.specs.Metadata.{Dictionary, dictionaryOf}
 use Rattle.paper.specs.Meaning.{Scalar, Doc}
 use Rattle.paper.specs.Values.{meaningOf}
 use Rattle.paper.specs.Framing.{Piece, piecesOf}
-use Rattle.paper.specs.Schemas.{Schema, leftoverOnly, column, list, fields, SchemaFields, noColumns, named}
+use Rattle.paper.specs.Schemas.{Column, Schema, leftoverOnly, column, list, fields, SchemaFields, noColumns, named}
 use Rattle.paper.specs.Cells.{cellMeaning}
 
--- A place holds at most one `41` (leftover) and then at most one `42` (typed). Typed is a cell, or inner places: a list's,
--- or an object's, one for each schema field in schema order.
+-- A place holds at most one `41` (leftover) and then at most one `42` (typed). Typed is a cell of a column, or inner
+-- places: a list's, or an object's, one for each schema field in schema order.
 mutual
   pub data Place : Type 0 where
     empty : Place
@@ -24,7 +24,7 @@ mutual
     both : Doc → Typed → Place
 
   pub data Typed : Type 0 where
-    cell : Scalar → Typed
+    cell : Column → Scalar → Typed
     inner : Places → Typed
 
   pub data Places : Type 0 where
@@ -51,29 +51,46 @@ unfoldable pub placeBy : (List ℕ → Option Doc) → (List ℕ → Option Type
 placeBy left right piece =
     given (eqb (piece .tag) 0x50) (andThen (piecesOf (piece .body)) λ parts. placeParts left right parts)
 
+-- A place with so many levels left, by what reads a typed body.
+unfoldable pub placeWithin : (levels : ℕ) → Dictionary → (List ℕ → Option Typed) → Piece → Option Place
+placeWithin levels names right piece = placeBy (leftoverMeaning levels names) right piece
+
+-- ---- typed bodies
+
+-- There is none under node `00`.
+unfoldable pub noBody : List ℕ → Option Typed
+noBody s = none
+
+unfoldable pub cellBody : Column → List ℕ → Option Typed
+cellBody said s = andThen (cellMeaning said s) λ value. some (cell said value)
+
+-- Inner places, by what reads them.
+unfoldable pub innerBody : (List Piece → Option Places) → List ℕ → Option Typed
+innerBody read s = andThen (piecesOf s) λ pieces. andThen (read pieces) λ ps. some (inner ps)
+
 -- A list's places, by what reads one.
 unfoldable pub listPlaces : (Piece → Option Place) → List Piece → Option Places
 listPlaces read [] = some noPlaces
 listPlaces read (piece ∷ more) = andThen (read piece) λ p. andThen (listPlaces read more) λ ps. some (place p ps)
 
--- A typed body under a node, with so many levels left at its place. Under node `00` there is none.
-unfoldable mutual
-  pub typedBody : Schema → (levels : ℕ) → Dictionary → List ℕ → Option Typed
-  typedBody leftoverOnly levels names s = none
-  typedBody (column code) levels names s = andThen (cellMeaning code s) λ value. some (cell value)
-  typedBody (list element) levels names s =
-      andThen (piecesOf s) λ pieces.
-      andThen (listPlaces (placeBy (leftoverMeaning (levels - 1) names) (λ body. typedBody element (levels - 1) names body)) pieces) λ ps.
-      some (inner ps)
-  typedBody (fields columns) levels names s =
-      andThen (piecesOf s) λ pieces. andThen (fieldPlaces columns (levels - 1) names pieces) λ ps. some (inner ps)
+-- ---- a place under a node, with so many levels left
 
+unfoldable mutual
+  pub placeUnder : Schema → (levels : ℕ) → Dictionary → Piece → Option Place
+  placeUnder leftoverOnly levels names = placeWithin levels names noBody
+  placeUnder (column said) levels names = placeWithin levels names (cellBody said)
+  placeUnder (list element) levels names =
+      placeWithin levels names (innerBody (listPlaces (λ piece. placeUnder element (levels - 1) names piece)))
+  placeUnder (fields columns) levels names =
+      placeWithin levels names (innerBody (λ pieces. fieldPlaces columns (levels - 1) names pieces))
+
+  -- An object's places, one for each schema field in schema order.
   pub fieldPlaces : SchemaFields → (levels : ℕ) → Dictionary → List Piece → Option Places
   fieldPlaces noColumns levels names [] = some noPlaces
   fieldPlaces noColumns levels names (piece ∷ more) = none
   fieldPlaces (named name node columns) levels names [] = none
   fieldPlaces (named name node columns) levels names (piece ∷ more) =
-      andThen (placeBy (leftoverMeaning levels names) (λ body. typedBody node levels names body) piece) λ p.
+      andThen (placeUnder node levels names piece) λ p.
       andThen (fieldPlaces columns levels names more) λ ps.
       some (place p ps)
 
@@ -88,7 +105,7 @@ rowParts schema (first ∷ []) = none
 rowParts schema (first ∷ second ∷ []) =
     given (eqb (first .tag) 0x40 && leb (length (first .body)) mostMetadata)
     (andThen (dictionaryOf (first .body)) λ names.
-    andThen (placeBy (leftoverMeaning mostLevels names) (typedBody schema mostLevels names) second) λ p.
+    andThen (placeUnder schema mostLevels names second) λ p.
     some (record { names = names; outermost = p }))
 rowParts schema (first ∷ second ∷ third ∷ more) = none
 

@@ -43,19 +43,19 @@ isArray (object fs) = false
 
 unfoldable pub isFieldsNode : Schema → Bool
 isFieldsNode leftoverOnly = false
-isFieldsNode (column code) = false
+isFieldsNode (column said) = false
 isFieldsNode (list element) = false
 isFieldsNode (fields columns) = true
 
 unfoldable pub isListNode : Schema → Bool
 isListNode leftoverOnly = false
-isListNode (column code) = false
+isListNode (column said) = false
 isListNode (list element) = true
 isListNode (fields columns) = false
 
 unfoldable pub namedBy : Schema → List (List ℕ)
 namedBy leftoverOnly = []
-namedBy (column code) = []
+namedBy (column said) = []
 namedBy (list element) = []
 namedBy (fields columns) = columnNames columns
 
@@ -106,29 +106,41 @@ insideLawful typedLawful (leftover d) = true
 insideLawful typedLawful (typed t) = typedLawful t
 insideLawful typedLawful (both d t) = typedLawful t
 
-unfoldable pub placeLawful : Schema → (Typed → Bool) → Place → Bool
-placeLawful node typedLawful p =
+-- A place under a node, by whether what is typed in it is lawful.
+unfoldable pub placeLawfulBy : Schema → (Typed → Bool) → Place → Bool
+placeLawfulBy node typedLawful p =
     not (breaksA node p || (breaksB p || (breaksC node p || breaksD node p))) && insideLawful typedLawful p
 
+-- A cell breaks no rule.
+unfoldable pub cellLawful : Typed → Bool
+cellLawful t = true
+
+-- Inner places, by whether they are lawful. (Where they belong, a row that parsed has no cell.)
+unfoldable pub innerLawful : (Places → Bool) → Typed → Bool
+innerLawful placesLawful (inner ps) = placesLawful ps
+innerLawful placesLawful (cell said value) = true
+
+-- A list's: no element is empty, and none breaks a rule.
 unfoldable pub elementsLawful : (Place → Bool) → Places → Bool
 elementsLawful lawfulOne noPlaces = true
 elementsLawful lawfulOne (place p ps) = (not (breaksE p) && lawfulOne p) && elementsLawful lawfulOne ps
 
 unfoldable mutual
-  pub lawful : Schema → Dictionary → Typed → Bool
-  lawful leftoverOnly names t = true
-  lawful (column code) names t = true
-  lawful (list element) names (cell value) = true
-  lawful (list element) names (inner ps) = elementsLawful (placeLawful element (λ t. lawful element names t)) ps
-  lawful (fields columns) names (cell value) = true
-  lawful (fields columns) names (inner ps) = fieldsLawful columns names ps
+  pub placeLawful : Schema → Dictionary → Place → Bool
+  placeLawful leftoverOnly names = placeLawfulBy leftoverOnly cellLawful
+  placeLawful (column said) names = placeLawfulBy (column said) cellLawful
+  placeLawful (list element) names =
+      placeLawfulBy (list element) (innerLawful (elementsLawful (λ p. placeLawful element names p)))
+  placeLawful (fields columns) names =
+      placeLawfulBy (fields columns) (innerLawful (λ ps. fieldsLawful columns names ps))
 
+  -- An object's. (A row that parsed has as many places as the node has fields.)
   pub fieldsLawful : SchemaFields → Dictionary → Places → Bool
   fieldsLawful noColumns names ps = true
   fieldsLawful (named name node columns) names noPlaces = true
   fieldsLawful (named name node columns) names (place p ps) =
-      (not (breaksF names name p) && placeLawful node (λ t. lawful node names t) p) && fieldsLawful columns names ps
+      (not (breaksF names name p) && placeLawful node names p) && fieldsLawful columns names ps
 
 -- A row that parses and breaks no rule.
 unfoldable pub rowLawful : Schema → Row → Bool
-rowLawful schema row = placeLawful schema (lawful schema (row .names)) (row .outermost)
+rowLawful schema row = placeLawful schema (row .names) (row .outermost)

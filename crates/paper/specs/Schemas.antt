@@ -11,10 +11,14 @@ use Rattle.paper.specs.Limits.{mostLevels}
 use Rattle.paper.specs.Metadata.{rising}
 use Rattle.paper.specs.Framing.{Piece, piecesOf, onePiece}
 
+-- A column: the type code of its cells.
+pub record Column : Type 0 where
+  pub code : ℕ
+
 mutual
   pub data Schema : Type 0 where
     leftoverOnly : Schema
-    column : (code : ℕ) → Schema
+    column : Column → Schema
     list : (element : Schema) → Schema
     fields : SchemaFields → Schema
 
@@ -29,6 +33,10 @@ columnNames (named name node more) = name ∷ columnNames more
 -- A type code from 1, 3-7, 11-20 (1 is boolean).
 unfoldable pub columnCode : ℕ → Bool
 columnCode code = eqb code 1 || ((leb 3 code && leb code 7) || (leb 11 code && leb code 20))
+
+-- The column that a body says: one type code.
+unfoldable pub columnOf : List ℕ → Option Column
+columnOf body = given (eqb (length body) 1 && columnCode (at body 0)) (some (record { code = at body 0 }))
 
 -- The tags of nodes.
 pub data NodeTag : Type 0 where
@@ -56,7 +64,7 @@ fieldNodes inner (piece ∷ more) =
 -- A node by its tag, its inner nodes by what reads one.
 unfoldable pub nodeBy : (Piece → Option Schema) → NodeTag → List ℕ → Option Schema
 nodeBy inner leftoverTag body = given (eqb (length body) 0) (some leftoverOnly)
-nodeBy inner columnTag body = given (eqb (length body) 1 && columnCode (at body 0)) (some (column (at body 0)))
+nodeBy inner columnTag body = andThen (columnOf body) λ said. some (column said)
 nodeBy inner listTag body = andThen (onePiece body) λ piece. andThen (inner piece) λ element. some (list element)
 nodeBy inner fieldsTag body =
     andThen (piecesOf body) λ pieces.

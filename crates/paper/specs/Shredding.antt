@@ -3,19 +3,15 @@ use mathlib.Core.Bool.{Bool, true, false, cond}
 use mathlib.Core.List.{List, [], _∷_, _++_}
 use mathlib.Core.Option.{Option, none, some}
 use Prim.Native.Nat.{ℕ}
-use Rattle.paper.specs.Words.{same, among}
+use Rattle.paper.specs.Words.{among}
 use Rattle.paper.specs.Metadata.{Dictionary}
 use Rattle.paper.specs.Meaning.{Scalar, Doc, null, scalar, array, object, Docs, noDocs, doc, Fields, noFields, field}
+use Rattle.paper.specs.Standing.{fieldAt}
 use Rattle.paper.specs.Normal.{namesUsed, metadataBytes, valueBytes}
 use Rattle.paper.specs.Framing.{frame}
-use Rattle.paper.specs.Schemas.{Schema, leftoverOnly, column, list, fields, SchemaFields, noColumns, named, columnNames}
+use Rattle.paper.specs.Schemas.{Column, Schema, leftoverOnly, column, list, fields, SchemaFields, noColumns, named, columnNames}
 use Rattle.paper.specs.Cells.{takes, cellBytes}
 use Rattle.paper.specs.Rows.{Place, empty, leftover, typed, both, Typed, cell, inner, Places, noPlaces, place}
-
--- The field of a name.
-unfoldable pub fieldAt : (name : List ℕ) → Fields → Option Doc
-fieldAt name noFields = none
-fieldAt name (field first d fs) = cond (same first name) (some d) (fieldAt name fs)
 
 -- The fields that are not named.
 unfoldable pub unnamed : List (List ℕ) → Fields → Fields
@@ -30,9 +26,8 @@ withRest noFields t = typed t
 withRest (field name d fs) t = both (object (field name d fs)) t
 
 -- A scalar under a column is typed exactly when the column takes it.
-unfoldable pub cutScalar : Bool → Scalar → Place
-cutScalar true s = typed (cell s)
-cutScalar false s = leftover (scalar s)
+unfoldable pub cutScalar : Column → Scalar → Place
+cutScalar said s = cond (takes said s) (typed (cell said s)) (leftover (scalar s))
 
 unfoldable pub cutAll : (Doc → Place) → Docs → Places
 cutAll cutOne noDocs = noPlaces
@@ -48,10 +43,10 @@ cutField cutOne (some d) = cutOne d
 unfoldable mutual
   pub cut : Schema → Doc → Place
   cut leftoverOnly d = leftover d
-  cut (column code) null = leftover null
-  cut (column code) (scalar s) = cutScalar (takes code s) s
-  cut (column code) (array ds) = leftover (array ds)
-  cut (column code) (object fs) = leftover (object fs)
+  cut (column said) null = leftover null
+  cut (column said) (scalar s) = cutScalar said s
+  cut (column said) (array ds) = leftover (array ds)
+  cut (column said) (object fs) = leftover (object fs)
   cut (list element) null = leftover null
   cut (list element) (scalar s) = leftover (scalar s)
   cut (list element) (array ds) = typed (inner (cutAll (λ d. cut element d) ds))
@@ -75,7 +70,7 @@ unfoldable mutual
   placeBytes names (both d t) = frame 0x50 (frame 0x41 (valueBytes names d) ++ frame 0x42 (typedBytes names t))
 
   pub typedBytes : Dictionary → Typed → List ℕ
-  typedBytes names (cell value) = cellBytes value
+  typedBytes names (cell said value) = cellBytes said value
   typedBytes names (inner ps) = placesBytes names ps
 
   pub placesBytes : Dictionary → Places → List ℕ

@@ -1,6 +1,7 @@
 -- "Values" (01): how long a value says it is, how an array's and an object's children lie, and what lawful bytes mean.
--- The order of judging inside a value: its own header, count, ids, order and offsets; then its children's lengths; then
--- gaps and overlaps; then the children's insides in field or array order.
+-- The order of judging inside a value: that it ends where its bytes do; its own header, count, ids, order and offsets; then
+-- its children's lengths; then gaps and overlaps; then the children's insides in field or array order, nesting with them.
+-- No answer shows the order: a value is lawful or it is not.
 use mathlib.Core.Bool.{Bool, true, false, not, _&&_, _||_}
 use mathlib.Core.List.{List, [], _∷_, map}
 use mathlib.Core.Option.{Option, none, some}
@@ -13,7 +14,7 @@ use Rattle.paper.specs.Metadata.{Dictionary, rising}
 use Rattle.paper.specs.FirstBytes.{readingOf}
 use Rattle.paper.specs.declared.Reading.{Reading}
 use Rattle.paper.specs.declared.Reading.the-variants.{Fixed, Prefixed, Short, ObjectHead, ArrayHead, Nothing}
-use Rattle.paper.specs.Meaning.{Scalar, boolean, payload, text, Doc, null, scalar, array, object, Docs, noDocs, doc, Fields, noFields, field}
+use Rattle.paper.specs.Meaning.{Scalar, boolean, payload, text, textMeaning, Doc, null, scalar, array, object, Docs, noDocs, doc, Fields, noFields, field}
 
 -- ---- how long the value that starts here says it is
 
@@ -124,10 +125,14 @@ primitiveMeaning (suc (suc (suc more))) s =
     let type = suc (suc (suc more)) in
     given (not (leb 8 type && leb type 10) || leb (at s 0) 38) (some (scalar (payload type s)))
 
+-- A string, short or long.
+unfoldable pub stringMeaning : List ℕ → Option Doc
+stringMeaning s = andThen (textMeaning s) λ t. some (scalar t)
+
 -- Binary is type 15 and string type 16, without their length.
-unfoldable pub prefixedMeaning : Bool → ℕ → List ℕ → Doc
-prefixedMeaning true type s = scalar (text s)
-prefixedMeaning false type s = scalar (payload type s)
+unfoldable pub prefixedMeaning : (string : Bool) → (type : ℕ) → List ℕ → Option Doc
+prefixedMeaning true type s = stringMeaning s
+prefixedMeaning false type s = some (scalar (payload type s))
 
 -- The insides of children, by what decodes one.
 unfoldable pub elementDocs : (List ℕ → Option Doc) → List ℕ → List Child → Option Docs
@@ -144,8 +149,8 @@ memberDocs inner area (name ∷ names) (child ∷ more) =
 -- A value by the reading of its first byte, its children by what decodes one.
 unfoldable pub meaningBy : (List ℕ → Option Doc) → Dictionary → Reading → List ℕ → Option Doc
 meaningBy inner names (Fixed type size) s = primitiveMeaning type (drop 1 s)
-meaningBy inner names (Prefixed type) s = some (prefixedMeaning (eqb type 16) type (drop 5 s))
-meaningBy inner names (Short size) s = some (scalar (text (drop 1 s)))
+meaningBy inner names (Prefixed type) s = prefixedMeaning (eqb type 16) type (drop 5 s)
+meaningBy inner names (Short size) s = stringMeaning (drop 1 s)
 meaningBy inner names (ObjectHead count id offset) s =
     andThen (membersOf names count id offset s) λ children.
     andThen (memberDocs inner (areaOf count id offset s) (namesAt names (idsOf count id s)) children) λ fs.

@@ -1,6 +1,7 @@
 // Document 01 as definitions: everything that a reader must believe is in `specs/`, a file to a paragraph of 01, in its
 // order. This file has the types of the answers, which the definitions and the operations share.
 ghost use mathlib.Core.Path.{_≡_};
+ghost use Rattle.paper.specs.Constants.{AsStated};
 ghost use Rattle.paper.specs.Refusals.{refusalNumber};
 
 // What a register may hold: the numbers of `specs/Limits.antt`, for the code.
@@ -8,9 +9,44 @@ pub const MOST_METADATA: usize = 16384;
 
 pub const MOST_VALUE: usize = 16384;
 
+pub const MOST_SCHEMA: usize = 4096;
+
 pub const MOST_PATH: usize = 1024;
 
+pub const MOST_ROW: usize = 65535;
+
+pub const MOST_CELL: usize = 16384;
+
+pub const MOST_LEFTOVER: usize = 16384;
+
 pub const MOST_LEVELS: usize = 16;
+
+// The constants as a record, so that they can be shown to be those numbers.
+pub struct Limits {
+    pub metadata: usize,
+    pub value: usize,
+    pub schema: usize,
+    pub path: usize,
+    pub row: usize,
+    pub cell: usize,
+    pub leftover: usize,
+    pub levels: usize,
+}
+
+pub fn may_hold() -> Limits
+    ensures { λ r. ⌜ AsStated r ⌝ }
+{
+    Limits {
+        metadata: MOST_METADATA,
+        value: MOST_VALUE,
+        schema: MOST_SCHEMA,
+        path: MOST_PATH,
+        row: MOST_ROW,
+        cell: MOST_CELL,
+        leftover: MOST_LEFTOVER,
+        levels: MOST_LEVELS,
+    }
+}
 
 // Why the register says no, in the order of 01's numbers 1 to 8. (9 is an answer that carries the lengths needed.)
 pub enum Refusal {

@@ -15,10 +15,10 @@ use Rattle.paper.specs.Values.{Child, childExtent, childrenAt, childBytes, area
 use Rattle.paper.specs.Words.{at, same, isThere}
 use Rattle.paper.specs.declared.Reading.the-variants.{ObjectHead, ArrayHead}
 use Rattle.paths.specs.Places.{positionIn}
-use Rattle.values.specs.Children.{allGood, insidesGood}
+use Rattle.values.specs.Insides.{allGood, insidesGood}
 use Rattle.paper.proofs.WordLaws.{never, then-some, some-there, and-both}
 use Rattle.paths.proofs.PlaceLaws.{elements-are, members-are}
-use Rattle.values.proofs.ChildLaws.{AllSized, SizedIn, children-sized, extent-fits, extent-inside}
+use Rattle.containers.proofs.ChildLaws.{AllSized, SizedIn, children-sized, extent-fits, extent-inside}
 
 -- ---- one of some children
 

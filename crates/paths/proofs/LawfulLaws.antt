@@ -10,17 +10,18 @@ use Rattle.dictionary.specs.Judging.{Opened}
 use Rattle.dictionary.specs.declared.Names.{Names}
 use Rattle.paper.specs.FirstBytes.{readingOf}
 use Rattle.paper.specs.Metadata.{Dictionary, rising}
-use Rattle.paper.specs.Paths.{Step, byName, byIndex, intoField, intoElement, stepInto}
+use Rattle.paper.specs.Paths.{intoField, intoElement, stepInto}
+use Rattle.paper.specs.Standing.{Step, byName, byIndex}
 use Rattle.paper.specs.Values.{Child, childrenAt, childBytes, areaOf, startsOf, idsOf, namesAt, membersOf, elementsOf, meaningBy, meaningOf, whole}
 use Rattle.paper.specs.Words.{at, andThen, isThere, allBelow}
 use Rattle.paper.specs.declared.Reading.the-variants.{Fixed, Prefixed, Short, ObjectHead, ArrayHead, Nothing}
 use Rattle.paper.specs.declared.Reading.{Reading}
 use Rattle.paths.specs.Places.{LawfulIn}
-use Rattle.values.specs.Children.{tiledIn, onceIn}
-use Rattle.values.specs.Layouts.{Container}
+use Rattle.containers.specs.Children.{tiledIn, onceIn}
+use Rattle.containers.specs.Layouts.{Container}
 use Rattle.paper.proofs.WordLaws.{never, there-given, some-there, and-both}
 use Rattle.paths.proofs.HeldLaws.{element-held, field-held}
-use Rattle.values.proofs.LayoutLaws.{ids-starts-length}
+use Rattle.containers.proofs.LayoutLaws.{ids-starts-length}
 use Rattle.values.proofs.ValueLaws.{array-container, object-container, object-id, whole-some}
 use Rattle.values.proofs.VerdictLaws.{array-verdict, object-verdict}
 

@@ -17,8 +17,8 @@ use Rattle.paper.specs.declared.Reading.the-variants.{ObjectHead, ArrayHead}
 use Rattle.paths.specs.Places.{placeOf}
 use Rattle.paths.specs.declared.places.Place.the-variants.{At, Nowhere}
 use Rattle.paths.specs.declared.places.Place.{Place}
-use Rattle.values.specs.Layouts.{Container, LaidOut}
-use Rattle.values.specs.declared.shape.Layout.{Layout}
+use Rattle.containers.specs.Layouts.{Container, LaidOut}
+use Rattle.containers.specs.declared.shape.Layout.{Layout}
 use Rattle.paths.proofs.HeldLaws.{element-held, field-held}
 
 -- ---- an answer about a child, read back

@@ -11,7 +11,8 @@ use lib.ListN.{length, take, drop, length-drop, drop-of-length-le}
 use lib.Seq.{drop-cons, drop-drop}
 use Rattle.numbers.specs.Little.{number, numberAt}
 use Rattle.paper.specs.Framing.{Piece, piecesWithin, piecesOf}
-use Rattle.paper.specs.Paths.{Step, byIndex, stepOf, stepsOf, pathOf}
+use Rattle.paper.specs.Paths.{stepOf, stepsOf, pathOf}
+use Rattle.paper.specs.Standing.{Step, byIndex}
 use Rattle.paper.specs.Words.{at, part, given, andThen, isThere}
 use Rattle.dictionary.proofs.NumbersRunLaws.{number-drop}
 use Rattle.paper.proofs.WordLaws.{never}

@@ -21,12 +21,12 @@ use Rattle.paper.specs.Words.{same, andThen, isThere, numbers, allBelow}
 use Rattle.paths.specs.Places.{placeOf, positionIn}
 use Rattle.paths.specs.declared.places.Place.the-variants.{At, Nowhere}
 use Rattle.paths.specs.declared.places.Place.{Place}
-use Rattle.values.specs.Layouts.{Container, LaidOut}
-use Rattle.values.specs.declared.shape.Layout.{Layout}
+use Rattle.containers.specs.Layouts.{Container, LaidOut}
+use Rattle.containers.specs.declared.shape.Layout.{Layout}
 use Rattle.dictionary.proofs.NumbersRunLaws.{rest, run-length, run-at, run-there}
 use Rattle.paper.proofs.WordLaws.{given-some, there-some, then-some, and-both}
-use Rattle.values.proofs.ChildLaws.{AllSized, SizedIn, children-sized}
-use Rattle.values.proofs.LayoutLaws.{area-same, starts-same, starts-there, starts-few, ids-same, ids-there, ids-starts-length}
+use Rattle.containers.proofs.ChildLaws.{AllSized, SizedIn, children-sized}
+use Rattle.containers.proofs.LayoutLaws.{area-same, starts-same, starts-there, starts-few, ids-same, ids-there, ids-starts-length}
 
 -- ---- the child of a number
 

@@ -17,7 +17,7 @@ use Rattle.paths.specs.Places.{positionIn}
 use Rattle.dictionary.proofs.NumbersRunLaws.{run-length, below-at}
 use Rattle.names.proofs.SameLaws.{same-refl, same-is}
 use Rattle.order.proofs.OrderLaws.{order-refl, equal-same}
-use Rattle.values.proofs.RunLaws.{Standing, standing-start, standing-next, run-next, run-here, run-ended}
+use Rattle.containers.proofs.RunLaws.{Standing, standing-start, standing-next, run-next, run-here, run-ended}
 
 -- By the answer of a comparison, of a name that was looked up.
 module _ (x y : List ℕ) (a : List ℕ) (looked : a ≡ x) (r : Order) (told : r ≡ orderOf a y) where

@@ -12,7 +12,8 @@ use lib.Seq.{take-all}
 use Rattle.numbers.specs.Little.{number, numberAt}
 use Rattle.paper.specs.FirstBytes.{readingOf}
 use Rattle.paper.specs.Metadata.{Dictionary}
-use Rattle.paper.specs.Paths.{byIndex, stepOf, intoField, intoElement, stepInto}
+use Rattle.paper.specs.Paths.{stepOf, intoField, intoElement, stepInto}
+use Rattle.paper.specs.Standing.{byIndex}
 use Rattle.paper.specs.Words.{at, given, andThen, isThere}
 use Rattle.paper.specs.declared.Reading.the-variants.{Fixed, Prefixed, Short, ObjectHead, ArrayHead, Nothing}
 use Rattle.paper.specs.declared.Reading.{Reading}

@@ -5,6 +5,7 @@ ghost use mathlib.Core.List.{List};
 ghost use mathlib.Core.Option.{some};
 ghost use Prim.Native.Nat.{_≤_};
 ghost use lib.ListN.{length};
+ghost use Rattle.paper.specs.Bounds.{mostWalked};
 ghost use Rattle.paper.specs.Words.{at, isThere, andThen};
 ghost use Rattle.paper.specs.Limits.{mostLevels};
 ghost use Rattle.paper.specs.Refusals.{reached};
@@ -12,18 +13,19 @@ ghost use Rattle.paper.specs.FirstBytes.{readingOf};
 ghost use Rattle.paper.specs.Metadata.{namesIn};
 ghost use Rattle.paper.specs.Values.{meaningOf, membersOf, elementsOf};
 ghost use Rattle.paper.specs.declared.Reading.the-variants.{ObjectHead, ArrayHead};
-ghost use Rattle.paper.specs.Paths.{Step, stepOf, pathOf, intoField, intoElement, stepInto, findFrom};
+ghost use Rattle.paper.specs.Paths.{stepOf, pathOf, intoField, intoElement, stepInto, findFrom};
+ghost use Rattle.paper.specs.Standing.{Step};
 ghost use Rattle.paper.specs.Operations.{foundBy};
 ghost use Rattle.dictionary.specs.Judging.{Opened};
-ghost use Rattle.values.specs.Layouts.{Container};
+ghost use Rattle.containers.specs.Layouts.{Container};
 ghost use Rattle.paths.specs.Places.{placeOf, LawfulIn};
 use crate::places::Place;
 use crate::places::element_at;
 use crate::places::field_at;
+use containers::layout_of;
 use dictionary::Names;
 use paper::Found;
 use paper::Reading;
-use values::layout_of;
 
 // The field of a name, as a part of its object.
 fn in_object(
@@ -119,7 +121,7 @@ fn step_into(metadata: &[u8], names: Names, s: &[u8], tag: u8, body: &[u8]) -> P
 
 // Where a path leads from a value, step by step.
 pub fn find(metadata: &[u8], names: Names, value: &[u8], path: &[u8]) -> Found
-    requires { ⌜ Opened (now metadata) names × (isThere (meaningOf mostLevels (namesIn (now metadata)) (now value)) ≡ true) × (length (now value) ≤ 65536) × (isThere (pathOf (now path)) ≡ true) ⌝ }
+    requires { ⌜ Opened (now metadata) names × (isThere (meaningOf mostLevels (namesIn (now metadata)) (now value)) ≡ true) × (length (now value) ≤ mostWalked) × (isThere (pathOf (now path)) ≡ true) ⌝ }
     ensures { λ r. ⌜ ((steps : List Step) → pathOf (now (path .entry)) ≡ some steps → r ≡ foundBy (reached (findFrom (namesIn (now (metadata .entry))) steps 0 (now (value .entry))))) ⌝ }
 {
     let mut start = 0;

@@ -133,10 +133,11 @@ pub collect-start : (used chosen : List ℕ) → Collected used chosen chosen 0 
 unfolding usedIds
 collect-start used chosen = record { size = refl; few = omega arith; room = refl; front = refl }
 
-module _ {used chosen₀ chosen : List ℕ} {n i : ℕ} (seen : Collected used chosen₀ chosen n i) where
-  pub collect-one : getD used i 0 ≡ 1 → i < length chosen₀ → {after : List ℕ} {n′ : ℕ} → after ≡ set chosen n i → n′ ≡ n + 1
+module _ {used chosen₀ chosen : List ℕ} {n i : ℕ} (seen : Collected used chosen₀ chosen n i) (r : Bool) (told : r ≡ eqb (getD used i 0) 1) where
+  pub collect-one : r ≡ true → i < length chosen₀ → {after : List ℕ} {n′ : ℕ} → after ≡ set chosen n i → n′ ≡ n + 1
       → Collected used chosen₀ after n′ (i + 1)
-  collect-one is h {after} {n′} e more =
+  collect-one passed h {after} {n′} e more =
+      let is : getD used i 0 ≡ 1 = eqb-true (getD used i 0) 1 (sym told ∙ passed) in
       let same-room : length chosen ≡ length chosen₀ = seen .room in
       let fewer : n ≤ i = seen .few in
       record {
@@ -146,8 +147,9 @@ module _ {used chosen₀ chosen : List ℕ} {n i : ℕ} (seen : Collected used c
         front = rw (e, more, add-one n, add-one i, take-suc-set chosen n i (omega arith), seen .front) (sym (used-one i used is));
       }
 
-  pub collect-none : (getD used i 0 ≡ 1 → ⊥) → {after : List ℕ} {n′ : ℕ} → after ≡ chosen → n′ ≡ n → Collected used chosen₀ after n′ (i + 1)
-  collect-none is-not {after} {n′} e more =
+  pub collect-none : r ≡ false → {after : List ℕ} {n′ : ℕ} → after ≡ chosen → n′ ≡ n → Collected used chosen₀ after n′ (i + 1)
+  collect-none failed {after} {n′} e more =
+      let is-not : getD used i 0 ≡ 1 → ⊥ = eqb-false (getD used i 0) 1 (sym told ∙ failed) in
       let fewer : n ≤ i = seen .few in
       record {
         size = rw (more, add-one, used-none i used is-not) (seen .size);

@@ -154,9 +154,9 @@ module _ (names : Dictionary) (ids ranks : List ℕ) where
     pub fold-first-inside : first < length ranks
     fold-first-inside = let lower = first-below in omega arith
 
-    pub fold-start : neverFalls (namesAt names ids) ≡ true → FoldSeen names ids ids (set ranks first 0) (set ranks first 0) first 1 1
+    pub fold-start : neverFalls (namesAt names ids) ≡ true → {ranks′ : List ℕ} → ranks′ ≡ set ranks first 0 → FoldSeen names ids ids ranks′ ranks′ first 1 1
     unfolding namesAt
-    fold-start falls-never =
+    fold-start falls-never e =
         let here : 0 < length ids = omega arith in
         let all-ids : ids ≡ first ∷ drop 1 ids = drop-cons ids 0 0 here ∙ ap (λ (n : ℕ). n ∷ drop 1 ids) (sym is) in
         let one : take 1 ids ≡ first ∷ [] = take-suc ids 0 0 here ∙ ap (λ (n : ℕ). n ∷ []) (sym is) in
@@ -165,12 +165,12 @@ module _ (names : Dictionary) (ids ranks : List ℕ) where
           few = omega arith;
           size = refl;
           room = refl;
-          enough = rw length-set room;
+          enough = rw (e, length-set) room;
           least = omega arith;
           last-below = first-below;
           rest = λ j h. refl;
           order = rw all-ids at falls-never;
-          picked = rw one (kept-first names ranks first first-below fold-first-inside);
+          picked = rw (one, e) (kept-first names ranks first first-below fold-first-inside);
         }
 
 module _ {names : Dictionary} {ids₀ ids ranks₀ ranks : List ℕ} {last kept i : ℕ} (seen : FoldSeen names ids₀ ids ranks₀ ranks last kept i) where
@@ -197,23 +197,23 @@ module _ {names : Dictionary} {ids₀ ids ranks₀ ranks : List ℕ} {last kept 
         and-both _ _ (rw left at (seen .order))
 
     module _ (r : Bool) (told : r ≡ before (getD names last []) (getD names id [])) where
-      pub fold-new : r ≡ true → {ids′ ranks′ : List ℕ} {kept′ : ℕ} → ids′ ≡ set ids kept (getD ids i 0) → kept′ ≡ kept + 1
+      pub fold-new : r ≡ true → {ids′ ranks′ : List ℕ} {kept′ : ℕ} → ids′ ≡ set ids kept id → kept′ ≡ kept + 1
           → ranks′ ≡ set ranks id (kept′ - 1) → FoldSeen names ids₀ ids′ ranks₀ ranks′ id kept′ (i + 1)
       fold-new passed {ids′} {ranks′} {kept′} e more f =
           let fewer : kept ≤ i = seen .few in
           let size : length (take kept ids) ≡ kept = length-take-le kept ids (omega arith) in
           let front : take kept′ ids′ ≡ take kept ids ++ (id ∷ []) =
-          rw (e, more, add-one, take-suc-set ids kept (getD ids i 0) (omega arith), ← is) in
+          rw (e, more, add-one, take-suc-set ids kept id (omega arith)) in
           let value : kept′ - 1 ≡ length (take kept ids) = omega arith in
           record {
             far = let h = there in omega arith;
             few = omega arith;
-            size = ap length e ∙ length-set ids kept (getD ids i 0) ∙ seen .size;
+            size = ap length e ∙ length-set ids kept id ∙ seen .size;
             room = ap length f ∙ length-set ranks id (kept′ - 1) ∙ seen .room;
             enough = rw (f, length-set) (seen .enough);
             least = omega arith;
             last-below = fold-below;
-            rest = λ j l. ap (λ (xs : List ℕ). getD xs j 0) e ∙ getD-set-other ids kept j (getD ids i 0) 0 (λ eq. omega arith) ∙ seen .rest j (omega arith);
+            rest = λ j l. ap (λ (xs : List ℕ). getD xs j 0) e ∙ getD-set-other ids kept j id 0 (λ eq. omega arith) ∙ seen .rest j (omega arith);
             order = falls .1;
             picked = rw (front, one-more, f, value) (kept-new (seen .picked) id fold-below fold-inside (sym told ∙ passed));
           }

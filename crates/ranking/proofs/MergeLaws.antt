@@ -78,9 +78,10 @@ module _ {names : Dictionary} {first second out : List ℕ} {i j : ℕ} (seen : 
   written id rest h = sym (rw (take-suc-set out (i + j) id h, append-snoc))
 
   module _ (r : Bool) (told : r ≡ takesFirst names (drop i first) (drop j second)) where
-    pub merge-first : r ≡ true → i + j < length out → {after : List ℕ} → after ≡ set out (i + j) (getD first i 0)
+    pub merge-first : r ≡ true → i + j < length out → (id : ℕ) → id ≡ getD first i 0 → {after : List ℕ} → after ≡ set out (i + j) id
         → MergeSeen names first second after (i + 1) j
-    merge-first passed h e =
+    merge-first passed h id is put =
+        let e = put ∙ ap (set out (i + j)) is in
         let there : i < length first = takes-there names first second i j r told passed in
         let left : drop i first ≡ getD first i 0 ∷ drop (i + 1) first = rw (add-one, drop-cons first i 0 there) in
         let takes : takesFirst names (getD first i 0 ∷ drop (i + 1) first) (drop j second) ≡ true =
@@ -96,9 +97,10 @@ module _ {names : Dictionary} {first second out : List ℕ} {i j : ℕ} (seen : 
               ∙ written (getD first i 0) (merged names (drop (i + 1) first) (drop j second)) h ∙ rw (e, place);
         }
 
-    pub merge-second : r ≡ false → i + j < length out → {after : List ℕ} → after ≡ set out (i + j) (getD second j 0)
+    pub merge-second : r ≡ false → i + j < length out → (id : ℕ) → id ≡ getD second j 0 → {after : List ℕ} → after ≡ set out (i + j) id
         → MergeSeen names first second after i (j + 1)
-    merge-second failed h e =
+    merge-second failed h id is put =
+        let e = put ∙ ap (set out (i + j)) is in
         let size : length out ≡ length first + length second = seen .size in
         let there : j < length second = takes-other names first second i j r told failed (seen .far-first) (omega arith) in
         let left : drop j second ≡ getD second j 0 ∷ drop (j + 1) second = rw (add-one, drop-cons second j 0 there) in

@@ -7,17 +7,11 @@ use native.Mathlib.Numerals.{add-one}
 use native.Mathlib.Omega.{arith}
 use lib.ListN.{length, getD, drop, drop-of-length-le}
 use lib.Seq.{drop-cons}
-use Rattle.order.specs.Before.{before, orderOf}
-use Rattle.order.specs.declared.Order.{Order}
+use Rattle.order.specs.Before.{before}
 use Rattle.paper.specs.Metadata.{Dictionary, rising}
 use Rattle.paper.specs.Values.{namesAt}
 use Rattle.paper.specs.Words.{allBelow}
-use Rattle.dictionary.proofs.CompareLaws.{isLess, told}
 use Rattle.dictionary.proofs.NumbersRunLaws.{below-at}
-
--- By the answer of a comparison of two names.
-pub compared : (x y a b : List ℕ) → a ≡ x → b ≡ y → (r o : Order) → r ≡ orderOf a b → r ≡ o → isLess o ≡ before x y
-compared x y a b first second r o is e = told a b r o is e ∙ rw (first, second)
 
 pub ordered-none : (names : Dictionary) (ids : List ℕ) → length ids ≡ 0 → true ≡ rising (namesAt names ids)
 unfolding rising namesAt

@@ -7,7 +7,5 @@ mod sorting;
 mod tables;
 
 pub use ranks::rank;
-pub use tables::InputId;
-pub use tables::NormalId;
 pub use tables::input_of;
 pub use tables::normal_of;

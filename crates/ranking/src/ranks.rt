@@ -3,27 +3,34 @@ ghost use mathlib.Core.Bool.{true};
 ghost use mathlib.Core.Path.{_≡_};
 ghost use Prim.Native.Nat.{_≤_};
 ghost use lib.ListN.{length};
+ghost use Rattle.paper.specs.Bounds.{mostNames};
 ghost use Rattle.paper.specs.Metadata.{Dictionary, namesIn, rising};
 ghost use Rattle.paper.specs.Values.{namesAt};
 ghost use Rattle.paper.specs.Words.{allBelow};
 ghost use Rattle.dictionary.specs.Judging.{Opened};
 ghost use Rattle.ranking.specs.Ranks.{usedIds, neverFalls, Listed, RanksOf, Folded, Ranked};
-use crate::sorting::comes_before;
 use crate::sorting::in_order;
 use crate::sorting::sort;
-use crate::tables::entry;
+use crate::tables::id_at;
+use crate::tables::put_id;
+use crate::tables::set_normal;
+use dictionary::InputId;
 use dictionary::Names;
+use dictionary::NormalId;
+use dictionary::comes_before;
+use marking::is_used;
 
 // Lists the used ids below a count, rising, and answers how many they are.
 fn collect(used: &[u8], count: usize, chosen: &mut [u16]) -> usize
-    requires { ⌜ (count ≤ length (now used)) × (count ≤ length (now chosen)) × (count ≤ 16384) ⌝ }
+    requires { ⌜ (count ≤ length (now used)) × (count ≤ length (now chosen)) × (count ≤ mostNames) ⌝ }
     ensures { λ r. ⌜ Listed (usedIds count (now (used .entry))) (now (chosen .exit)) r ⌝ }
 {
     let mut n = 0;
     let mut i = 0;
     while i < count {
-        if used[i] == 1 {
-            chosen[n] = i as u16;
+        let id = InputId(i);
+        if is_used(used, id) {
+            put_id(chosen, n, id);
             n += 1;
         }
         i += 1;
@@ -33,13 +40,12 @@ fn collect(used: &[u8], count: usize, chosen: &mut [u16]) -> usize
 
 // Gives each of some ids, whose names rise, its place.
 fn place(ids: &[u16], ranks: &mut [u16])
-    requires { ⌜ (allBelow (length (now ranks)) (now ids) ≡ true) × (length (now ids) ≤ 16384) ⌝ }
+    requires { ⌜ (allBelow (length (now ranks)) (now ids) ≡ true) × (length (now ids) ≤ mostNames) ⌝ }
     ensures { λ _. ⌜ ((names : Dictionary) → rising (namesAt names (now (ids .entry))) ≡ true → RanksOf names (now (ids .entry)) (now (ids .entry)) (now (ranks .exit))) ⌝ }
 {
     let mut i = 0;
     while i < ids.len() {
-        let id = entry(ids, i);
-        ranks[id] = i as u16;
+        set_normal(ranks, id_at(ids, i), NormalId(i));
         i += 1;
     }
 }
@@ -47,23 +53,24 @@ fn place(ids: &[u16], ranks: &mut [u16])
 // Of ids whose names never fall keeps the first of each name, and gives each id its name's place among those kept. Answers
 // how many are kept.
 fn fold(metadata: &[u8], names: Names, ids: &mut [u16], ranks: &mut [u16]) -> usize
-    requires { ⌜ Opened (now metadata) names × (allBelow (names .count) (now ids) ≡ true) × (neverFalls (namesAt (namesIn (now metadata)) (now ids)) ≡ true) × (names .count ≤ length (now ranks)) × (length (now ids) ≤ 16384) ⌝ }
+    requires { ⌜ Opened (now metadata) names × (allBelow (names .count) (now ids) ≡ true) × (neverFalls (namesAt (namesIn (now metadata)) (now ids)) ≡ true) × (names .count ≤ length (now ranks)) × (length (now ids) ≤ mostNames) ⌝ }
     ensures { λ r. ⌜ Folded (namesIn (now (metadata .entry))) (now (ids .entry)) (now (ids .exit)) (now (ranks .exit)) r ⌝ }
 {
     if ids.len() == 0 {
         return 0;
     }
-    let mut last = entry(ids, 0);
-    ranks[last] = 0;
+    let mut last = id_at(ids, 0);
+    set_normal(ranks, last, NormalId(0));
     let mut kept = 1;
     let mut i = 1;
     while i < ids.len() {
-        let id = entry(ids, i);
+        let id = id_at(ids, i);
         if comes_before(metadata, names, last, id) {
-            ids[kept] = ids[i];
+            put_id(ids, kept, id);
             kept += 1;
         }
-        ranks[id] = (kept - 1) as u16;
+        let place = kept - 1;
+        set_normal(ranks, id, NormalId(place));
         last = id;
         i += 1;
     }
@@ -73,7 +80,7 @@ fn fold(metadata: &[u8], names: Names, ids: &mut [u16], ranks: &mut [u16]) -> us
 // Of ids in any order keeps one for each name, in the order of the names, and gives each id its name's place among those
 // kept. Answers how many are kept.
 fn sort_and_fold(metadata: &[u8], names: Names, ids: &mut [u16], ranks: &mut [u16]) -> usize
-    requires { ⌜ Opened (now metadata) names × (allBelow (names .count) (now ids) ≡ true) × (names .count ≤ length (now ranks)) × (length (now ids) ≤ 16384) ⌝ }
+    requires { ⌜ Opened (now metadata) names × (allBelow (names .count) (now ids) ≡ true) × (names .count ≤ length (now ranks)) × (length (now ids) ≤ mostNames) ⌝ }
     ensures { λ r. ⌜ Folded (namesIn (now (metadata .entry))) (now (ids .entry)) (now (ids .exit)) (now (ranks .exit)) r ⌝ }
 {
     sort(metadata, names, ids);
@@ -89,7 +96,7 @@ pub fn rank(
     ranks: &mut [u16],
     chosen: &mut [u16],
 ) -> usize
-    requires { ⌜ Opened (now metadata) names × (names .count ≤ length (now used)) × (names .count ≤ length (now ranks)) × (names .count ≤ length (now chosen)) × (names .count ≤ 16384) ⌝ }
+    requires { ⌜ Opened (now metadata) names × (names .count ≤ length (now used)) × (names .count ≤ length (now ranks)) × (names .count ≤ length (now chosen)) × (names .count ≤ mostNames) ⌝ }
     ensures { λ r. ⌜ Ranked (namesIn (now (metadata .entry))) (now (used .entry)) (now (ranks .exit)) (now (chosen .exit)) r ⌝ }
 {
     let count = names.count;

@@ -1,35 +1,20 @@
 // Ids put in the order of their names, by merging halves.
 ghost use mathlib.Core.Bool.{true};
-ghost use mathlib.Core.List.{[], _++_};
+ghost use mathlib.Core.List.{_++_};
 ghost use mathlib.Core.Path.{_≡_};
-ghost use Prim.Native.Nat.{_+_, _≤_, _<_};
-ghost use lib.ListN.{length, getD, take, drop};
-ghost use Rattle.order.specs.Before.{before};
+ghost use Prim.Native.Nat.{_+_, _≤_};
+ghost use lib.ListN.{length, take, drop};
+ghost use Rattle.paper.specs.Bounds.{mostNames};
 ghost use Rattle.paper.specs.Metadata.{namesIn, rising};
 ghost use Rattle.paper.specs.Values.{namesAt};
 ghost use Rattle.paper.specs.Words.{allBelow};
 ghost use Rattle.dictionary.specs.Judging.{Opened};
 ghost use Rattle.ranking.specs.Merging.{takesFirst, merged};
 ghost use Rattle.ranking.specs.Ranks.{Sorted};
-use crate::tables::entry;
+use crate::tables::id_at;
+use crate::tables::put_id;
 use dictionary::Names;
-use order::Order;
-
-// The name of one id comes before that of another.
-pub fn comes_before(metadata: &[u8], names: Names, first: usize, second: usize) -> bool
-    requires { ⌜ Opened (now metadata) names × (first < names .count) × (second < names .count) ⌝ }
-    ensures { λ r. ⌜ r ≡ before (getD (namesIn (now (metadata .entry))) first []) (getD (namesIn (now (metadata .entry))) second []) ⌝ }
-{
-    let order = order::compare(
-        dictionary::name(metadata, names, first),
-        dictionary::name(metadata, names, second),
-    );
-    match order {
-        Order::Less => true,
-        Order::Equal => false,
-        Order::Greater => false,
-    }
-}
+use dictionary::comes_before;
 
 // The names of ids rise. A sorted dictionary says so of rising ids by its flag.
 pub fn in_order(metadata: &[u8], names: Names, ids: &[u16]) -> bool
@@ -42,10 +27,10 @@ pub fn in_order(metadata: &[u8], names: Names, ids: &[u16]) -> bool
     if ids.len() == 0 {
         return true;
     }
-    let mut last = entry(ids, 0);
+    let mut last = id_at(ids, 0);
     let mut i = 1;
     while i < ids.len() {
-        let id = entry(ids, i);
+        let id = id_at(ids, i);
         if comes_before(metadata, names, last, id) {
             last = id;
         } else {
@@ -86,7 +71,7 @@ fn from_first(
     if second.len() <= j {
         return true;
     }
-    !comes_before(metadata, names, entry(second, j), entry(first, i))
+    !comes_before(metadata, names, id_at(second, j), id_at(first, i))
 }
 
 // Merges two runs of ids by their names; of equal names the first run's come first.
@@ -98,10 +83,10 @@ fn merge(metadata: &[u8], names: Names, first: &[u16], second: &[u16], out: &mut
     let mut j = 0;
     while i + j < out.len() {
         if from_first(metadata, names, first, second, i, j) {
-            out[i + j] = first[i];
+            put_id(out, i + j, id_at(first, i));
             i += 1;
         } else {
-            out[i + j] = second[j];
+            put_id(out, i + j, id_at(second, j));
             j += 1;
         }
     }
@@ -141,7 +126,7 @@ fn sort_by(metadata: &[u8], names: Names, ids: &mut [u16], spare: &mut [u16])
 
 // Sorts ids by their names. The spare room goes by their count, so that few ids do not pay for many.
 pub fn sort(metadata: &[u8], names: Names, ids: &mut [u16])
-    requires { ⌜ Opened (now metadata) names × (allBelow (names .count) (now ids) ≡ true) × (length (now ids) ≤ 16384) ⌝ }
+    requires { ⌜ Opened (now metadata) names × (allBelow (names .count) (now ids) ≡ true) × (length (now ids) ≤ mostNames) ⌝ }
     ensures { λ _. ⌜ Sorted (namesIn (now (metadata .entry))) (now (ids .entry)) (now (ids .exit)) ⌝ }
 {
     if ids.len() <= 64 {

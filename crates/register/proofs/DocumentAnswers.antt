@@ -14,13 +14,15 @@ use Rattle.dictionary.specs.declared.Names.{Names}
 use Rattle.documents.specs.Judged.{namesRead, documentBy, documentOf}
 use Rattle.documents.specs.declared.Document.the-variants.{Lawful, Refused}
 use Rattle.documents.specs.declared.Document.{Document}
+use Rattle.paper.specs.Bounds.{mostWalked}
 use Rattle.paper.specs.Boxes.{boxOf}
 use Rattle.paper.specs.Limits.{mostLevels, mostPath}
 use Rattle.paper.specs.Meaning.{Doc}
 use Rattle.paper.specs.Metadata.{Dictionary, dictionaryOf, namesIn}
-use Rattle.paper.specs.Operations.{judged, documentFits, checkOutcome, checkedBy, checkAnswer, findOutcome, foundBy, findAnswer, boxOutcome, boxReadBy, boxAnswer}
-use Rattle.paper.specs.Paths.{Step, pathOf, findFrom}
-use Rattle.paper.specs.Refusals.{Outcome, refused, reached, unless, orElse}
+use Rattle.paper.specs.Operations.{judged, documentFits, checkOutcome, checkedBy, checkAnswer, findOutcome, foundBy, findAnswer, boxOutcome, boxReadBy, boxAnswer, valueJudged}
+use Rattle.paper.specs.Paths.{pathOf, findFrom}
+use Rattle.paper.specs.Standing.{Step}
+use Rattle.paper.specs.Refusals.{Outcome, refused, reached, require, obtain}
 use Rattle.paper.specs.Values.{Child, meaningOf}
 use Rattle.paper.specs.Words.{isThere}
 use Rattle.paper.specs.declared.BoxAnswer.{BoxAnswer}
@@ -31,12 +33,11 @@ use Rattle.paper.specs.declared.Refusal.{Refusal}
 use Rattle.dictionary.proofs.DictionaryLaws.{opened-names}
 use Rattle.documents.proofs.DocumentLaws.{LawfulDocument, lawful-document}
 use Rattle.paper.proofs.WordLaws.{never, some-there}
-use Rattle.words.proofs.BoundaryLaws.{one-answer}
 
 -- ---- what comes next is come to from a lawful document; another is refused as check refuses it
 
-fits : (b : Bool) (x : Outcome Doc) {d : Doc} → unless TooLong b x ≡ reached d → b ≡ true
-unfolding unless
+fits : (b : Bool) (x : Outcome Doc) {d : Doc} → require b TooLong x ≡ reached d → b ≡ true
+unfolding require
 fits true x e = refl
 fits false x e = absurd (let z : _≡_ {A = ℕ} 0 1 = cc in omega arith)
 
@@ -46,21 +47,21 @@ same-refusal {other = other} {refusal} e = let is : other ≡ refusal = cc in ap
 
 module _ {A : Type 0} (next : Dictionary → Doc → Outcome A) (m v : List ℕ) where
   pub judged-lawful : {names : Names} (l : LawfulDocument m v names)
-      → unless TooLong (documentFits m v) (judged m v next) ≡ next (namesIn m) (l .doc-is)
-  unfolding unless judged orElse checkOutcome
+      → require (documentFits m v) TooLong (judged m v next) ≡ next (namesIn m) (l .doc-is)
+  unfolding require judged valueJudged obtain checkOutcome
   judged-lawful l = rw (fits (documentFits m v) (judged m v λ names d. reached d) (l .outcome), opened-names (l .opened-is), l .means)
 
-  pub judged-refused : (refusal : Refusal) → checkOutcome m v ≡ refused refusal → unless TooLong (documentFits m v) (judged m v next) ≡ refused refusal
-  unfolding checkOutcome unless judged orElse
+  pub judged-refused : (refusal : Refusal) → checkOutcome m v ≡ refused refusal → require (documentFits m v) TooLong (judged m v next) ≡ refused refusal
+  unfolding checkOutcome require judged valueJudged obtain
   judged-refused refusal = go (documentFits m v) (dictionaryOf m)
     where
-      inner : (names : Dictionary) (x : Option Doc) → orElse BadValue x (λ d. reached d) ≡ refused refusal → orElse BadValue x (next names) ≡ refused refusal
+      inner : (names : Dictionary) (x : Option Doc) → obtain x BadValue (λ d. reached d) ≡ refused refusal → obtain x BadValue (next names) ≡ refused refusal
       inner names none e = same-refusal e
       inner names (some other) e = absurd (let z : _≡_ {A = ℕ} 0 1 = cc in omega arith)
 
       go : (b : Bool) (x : Option Dictionary)
-          → unless TooLong b (orElse BadMetadata x λ names. orElse BadValue (meaningOf mostLevels names v) λ d. reached d) ≡ refused refusal
-          → unless TooLong b (orElse BadMetadata x λ names. orElse BadValue (meaningOf mostLevels names v) (next names)) ≡ refused refusal
+          → require b TooLong (obtain x BadMetadata λ names. obtain (meaningOf mostLevels names v) BadValue λ d. reached d) ≡ refused refusal
+          → require b TooLong (obtain x BadMetadata λ names. obtain (meaningOf mostLevels names v) BadValue (next names)) ≡ refused refusal
       go false x e = same-refusal e
       go true none e = same-refusal e
       go true (some names) e = inner names (meaningOf mostLevels names v) e
@@ -89,23 +90,22 @@ module _ (m v : List ℕ) (r : Document) (told : r ≡ documentOf m v) where
 
   -- ---- find
 
-  pub find-asks : (names : Names) → r ≡ Lawful names → Opened m names × (isThere (meaningOf mostLevels (namesIn m) v) ≡ true) × (length v ≤ 65536)
+  pub find-asks : (names : Names) → r ≡ Lawful names → Opened m names × (isThere (meaningOf mostLevels (namesIn m) v) ≡ true) × (length v ≤ mostWalked)
   find-asks names e =
       let l = lawful names e in
       let short = l .short in
       (l .opened-is, some-there (meaningOf mostLevels (namesIn m) v) (l .means), omega arith)
 
-  module _ (p : List ℕ) (short : length p ≤ 1024) where
-    both-fit : {A : Type 0} (x : Outcome A) → unless TooLong (documentFits m v && leb (length p) mostPath) x ≡ unless TooLong (documentFits m v) x
-    unfolding mostPath
-    both-fit x = rw (le-leb (length p) 1024 short) (go (documentFits m v))
+  module _ (p : List ℕ) (short : length p ≤ mostPath) where
+    both-fit : {A : Type 0} (x : Outcome A) → require (documentFits m v && leb (length p) mostPath) TooLong x ≡ require (documentFits m v) TooLong x
+    both-fit x = rw (le-leb (length p) mostPath short) (go (documentFits m v))
       where
-        go : (b : Bool) → unless TooLong (b && true) x ≡ unless TooLong b x
+        go : (b : Bool) → require (b && true) TooLong x ≡ require b TooLong x
         go true = refl
         go false = refl
 
     pub find-lawful : (names : Names) → r ≡ Lawful names → (f : Found)
-        → f ≡ foundBy (orElse BadPath (pathOf p) λ steps. reached (findFrom (namesIn m) steps 0 v)) → f ≡ findAnswer m v p
+        → f ≡ foundBy (obtain (pathOf p) BadPath λ steps. reached (findFrom (namesIn m) steps 0 v)) → f ≡ findAnswer m v p
     unfolding findAnswer findOutcome
     find-lawful names e f is = is ∙ sym (ap foundBy (both-fit _ ∙ judged-lawful _ m v (lawful names e)))
 
@@ -132,47 +132,36 @@ module _ (m v : List ℕ) (r : Document) (told : r ≡ documentOf m v) where
 -- ---- the parts of find
 
 -- A path longer than a path may be.
-pub path-long : (m v p : List ℕ) → 1024 < length p → Found.Refused TooLong ≡ findAnswer m v p
-unfolding findAnswer findOutcome foundBy unless mostPath
-path-long m v p long = rw (lt-leb (length p) 1024 long) (go (documentFits m v) _)
+pub path-long : (m v p : List ℕ) → mostPath < length p → Found.Refused TooLong ≡ findAnswer m v p
+unfolding findAnswer findOutcome foundBy require
+path-long m v p long = rw (lt-leb (length p) mostPath long) (go (documentFits m v) _)
   where
-    go : (b : Bool) (x : Outcome (Option Child)) → Found.Refused TooLong ≡ foundBy (unless TooLong (b && false) x)
+    go : (b : Bool) (x : Outcome (Option Child)) → Found.Refused TooLong ≡ foundBy (require (b && false) TooLong x)
     go true x = refl
     go false x = refl
 
 -- good is whether the path keeps its rules.
 module _ (m v p : List ℕ) (good : Bool) (told : good ≡ isThere (pathOf p)) where
-  pub path-bad : good ≡ false → Found.Refused BadPath ≡ foundBy (orElse BadPath (pathOf p) λ steps. reached (findFrom (namesIn m) steps 0 v))
-  unfolding isThere orElse foundBy
+  pub path-bad : good ≡ false → Found.Refused BadPath ≡ foundBy (obtain (pathOf p) BadPath λ steps. reached (findFrom (namesIn m) steps 0 v))
+  unfolding isThere obtain foundBy
   path-bad e = go (pathOf p) (sym told ∙ e)
     where
-      go : (x : Option (List Step)) → isThere x ≡ false → Found.Refused BadPath ≡ foundBy (orElse BadPath x λ steps. reached (findFrom (namesIn m) steps 0 v))
+      go : (x : Option (List Step)) → isThere x ≡ false → Found.Refused BadPath ≡ foundBy (obtain x BadPath λ steps. reached (findFrom (namesIn m) steps 0 v))
       go none e = refl
       go (some steps) e = never e
 
-  pub path-asks : {names : Names} → Opened m names × (isThere (meaningOf mostLevels (namesIn m) v) ≡ true) × (length v ≤ 65536) → good ≡ true
-      → Opened m names × (isThere (meaningOf mostLevels (namesIn m) v) ≡ true) × (length v ≤ 65536) × (isThere (pathOf p) ≡ true)
+  pub path-asks : {names : Names} → Opened m names × (isThere (meaningOf mostLevels (namesIn m) v) ≡ true) × (length v ≤ mostWalked) → good ≡ true
+      → Opened m names × (isThere (meaningOf mostLevels (namesIn m) v) ≡ true) × (length v ≤ mostWalked) × (isThere (pathOf p) ≡ true)
   path-asks asks e = (asks .0, asks .1, asks .2, sym told ∙ e)
 
   -- f is what find answered along the path.
   pub path-kept : good ≡ true → (f : Found)
       → ((steps : List Step) → pathOf p ≡ some steps → f ≡ foundBy (reached (findFrom (namesIn m) steps 0 v)))
-      → f ≡ foundBy (orElse BadPath (pathOf p) λ steps. reached (findFrom (namesIn m) steps 0 v))
-  unfolding isThere orElse
+      → f ≡ foundBy (obtain (pathOf p) BadPath λ steps. reached (findFrom (namesIn m) steps 0 v))
+  unfolding isThere obtain
   path-kept e f = go (pathOf p) (sym told ∙ e)
     where
       go : (x : Option (List Step)) → isThere x ≡ true → ((steps : List Step) → x ≡ some steps → f ≡ foundBy (reached (findFrom (namesIn m) steps 0 v)))
-          → f ≡ foundBy (orElse BadPath x λ steps. reached (findFrom (namesIn m) steps 0 v))
+          → f ≡ foundBy (obtain x BadPath λ steps. reached (findFrom (namesIn m) steps 0 v))
       go none e is = never (sym e)
       go (some steps) e is = is steps refl
-
--- ---- no second answer satisfies a contract
-
-pub one-check : (m v : List ℕ) (r other : Checked) → r ≡ checkAnswer m v → other ≡ checkAnswer m v → r ≡ other
-one-check m v r other = one-answer
-
-pub one-find : (m v p : List ℕ) (r other : Found) → r ≡ findAnswer m v p → other ≡ findAnswer m v p → r ≡ other
-one-find m v p r other = one-answer
-
-pub one-box : (m v : List ℕ) (r other : BoxAnswer) → r ≡ boxAnswer m v → other ≡ boxAnswer m v → r ≡ other
-one-box m v r other = one-answer

@@ -6,13 +6,14 @@ ghost use mathlib.Core.Bool.{true};
 ghost use Prim.Native.Nat.{_≤_};
 ghost use lib.ListN.{length};
 ghost use Rattle.dictionary.specs.Judging.{Opened};
+ghost use Rattle.paper.specs.Bounds.{mostWalked};
 ghost use Rattle.paper.specs.Limits.{mostLevels};
 ghost use Rattle.paper.specs.Metadata.{namesIn};
 ghost use Rattle.normalise.specs.Answered.{Answered};
 ghost use Rattle.numbers.specs.Little.{putAt};
 ghost use Rattle.paper.specs.Operations.{normaliseOutcome, documentAnswer, metadataWritten, valueWritten, checkAnswer, findAnswer, foundBy, cellAnswer, boxAnswer};
 ghost use Rattle.paper.specs.Paths.{pathOf, findFrom};
-ghost use Rattle.paper.specs.Refusals.{orElse, reached};
+ghost use Rattle.paper.specs.Refusals.{obtain, reached};
 ghost use Rattle.paper.specs.Values.{meaningOf};
 ghost use Rattle.paper.specs.Words.{isThere};
 ghost use Rattle.words.specs.Boundary.{checkedWord, foundWord, documentWord, cellWord, boxWord};
@@ -52,8 +53,8 @@ pub extern "C" fn tanvelis_check(metadata: &[u8], value: &[u8]) -> u64
 
 // A path in a lawful document.
 fn find_in(metadata: &[u8], names: Names, value: &[u8], path: &[u8]) -> Found
-    requires { ⌜ Opened (now metadata) names × (isThere (meaningOf mostLevels (namesIn (now metadata)) (now value)) ≡ true) × (length (now value) ≤ 65536) ⌝ }
-    ensures { λ r. ⌜ r ≡ foundBy (orElse Refusal.BadPath (pathOf (now (path .entry))) λ steps. reached (findFrom (namesIn (now (metadata .entry))) steps 0 (now (value .entry)))) ⌝ }
+    requires { ⌜ Opened (now metadata) names × (isThere (meaningOf mostLevels (namesIn (now metadata)) (now value)) ≡ true) × (length (now value) ≤ mostWalked) ⌝ }
+    ensures { λ r. ⌜ r ≡ foundBy (obtain (pathOf (now (path .entry))) Refusal.BadPath λ steps. reached (findFrom (namesIn (now (metadata .entry))) steps 0 (now (value .entry)))) ⌝ }
 {
     if paths::path_good(path) {
         return paths::find(metadata, names, value, path);

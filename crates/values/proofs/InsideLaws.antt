@@ -4,75 +4,34 @@ use mathlib.Core.List.{List, _∷_}
 use mathlib.Core.Option.{Option, none, some}
 use mathlib.Core.Path.{_≡_, refl, sym, ap, _∙_}
 use Prim.Native.Nat.{ℕ, _+_, _-_, _*_, _≤_, _<_}
-use native.Mathlib.Nat.{add-zero}
 use native.Mathlib.Omega.{arith}
-use borrow.Author.Tests.{eq-eqb}
-use lib.ListN.{length, take, drop, length-take, length-drop}
-use lib.Seq.{getD-take, getD-drop}
+use lib.ListN.{length, take, drop}
 use mir.Syntax.{w64}
 use mir.Val.{Fits}
 use Rattle.heads.specs.Extents.{extentAnswer}
 use Rattle.heads.specs.declared.Extent.the-variants.{Size, Unknown}
 use Rattle.heads.specs.declared.Extent.{Extent}
 use Rattle.numbers.specs.Little.{numberAt}
+use Rattle.paper.specs.Bounds.{mostWalked}
 use Rattle.paper.specs.FirstBytes.{readingOf}
 use Rattle.paper.specs.Meaning.{Doc}
 use Rattle.paper.specs.Metadata.{Dictionary}
-use Rattle.paper.specs.Values.{Child, extent, childExtent, childrenAt, childBytes, areaOf, startsOf, meaningOf, whole, endsAt}
+use Rattle.paper.specs.Values.{Child, childExtent, childrenAt, childBytes, areaOf, startsOf, meaningOf}
 use Rattle.paper.specs.Words.{at, numbers, isThere, andThen}
-use Rattle.values.specs.Children.{plainBy, childGood, allGood, insidesGood}
-use Rattle.values.specs.Layouts.{Container, LaidOut}
-use Rattle.values.specs.declared.shape.Layout.{Layout}
+use Rattle.containers.specs.Layouts.{Container, LaidOut}
+use Rattle.containers.specs.declared.shape.Layout.{Layout}
+use Rattle.values.specs.Insides.{plainBy, childGood, allGood, insidesGood}
 use Rattle.dictionary.proofs.NumbersRunLaws.{rest}
-use Rattle.heads.proofs.HeadLaws.{extent-positive, extent-take}
 use Rattle.paper.proofs.WordLaws.{never, there-some}
-use Rattle.values.proofs.ChildLaws.{withFirst, children-none, children-some, extent-fits}
-use Rattle.values.proofs.LayoutLaws.{area-same, starts-same, area-small, starts-there, starts-few}
-use Rattle.values.proofs.LengthLaws.{unknown-none, size-some}
+use Rattle.containers.proofs.ChildLaws.{withFirst, children-none, children-some}
+use Rattle.containers.proofs.LayoutLaws.{area-same, starts-same, area-small, starts-there, starts-few}
+use Rattle.containers.proofs.LengthLaws.{unknown-none}
+use Rattle.containers.proofs.OwnLaws.{own, own-is, own-whole, known, first-own}
+use Rattle.containers.proofs.RunLaws.{Standing, standing-start, standing-there, standing-fits, standing-next, run-next, run-ended}
 use Rattle.values.proofs.PlainLaws.{plain-good}
-use Rattle.values.proofs.RunLaws.{Standing, standing-start, standing-there, standing-fits, standing-next, run-next, run-ended}
 use Rattle.values.proofs.ValueLaws.{false-first, true-first}
 
--- ---- a child's own bytes
-
-module _ (area : List ℕ) (start size : ℕ) (long : childExtent area start ≡ some size) where
-  abbrev pub own : List ℕ
-  own = take (start + size - start) (drop start area)
-
-  own-size : length own ≡ size
-  own-size = let fit = extent-fits area start size long .1 in simp (length-take, length-drop) (omega arith)
-
-  pub own-is : own ≡ childBytes area (record { start = start; size = size })
-  unfolding childBytes
-  own-is = let e : start + size - start ≡ size = omega arith in rw e
-
-  -- a child fills its own bytes
-  pub own-whole : whole own ≡ true
-  unfolding whole endsAt
-  own-whole =
-      let e : start + size - start ≡ size = omega arith in
-      let has : extent (take (start + size - start) (drop start area)) ≡ some size =
-      extent-take (drop start area) (start + size - start) (extent-fits area start size long .0) (omega arith) in
-      rw has (eq-eqb size (length (take (start + size - start) (drop start area))) (sym own-size))
-
 -- ---- one child
-
-module _ (area : List ℕ) (start : ℕ) (r : Extent) (told : r ≡ extentAnswer (childExtent area start)) (size : ℕ) (e : r ≡ Size size) where
-  pub known : childExtent area start ≡ some size
-  known = size-some (childExtent area start) size (sym told ∙ e)
-
-  pub child-end : length area ≤ 65536 → Fits w64 (start + size)
-  child-end small = let fit = extent-fits area start size known .1 in record { fits = omega arith }
-
-  pub child-in : start + size ≤ length area
-  child-in = extent-fits area start size known .1
-
-  -- what the judging of the child asks
-  pub child-asks : length area ≤ 65536 → (whole (own area start size known) ≡ true) × (length (own area start size known) ≤ 65536)
-  child-asks small =
-      let size-is : length (own area start size known) ≡ size = own-size area start size known in
-      let fit = child-in in
-      (own-whole area start size known, omega arith)
 
 module _ (inner : List ℕ → Option Doc) (area : List ℕ) (start : ℕ) where
   pub child-lost : (r : Extent) → r ≡ extentAnswer (childExtent area start) → r ≡ Unknown → false ≡ childGood inner area start
@@ -93,18 +52,6 @@ module _ (inner : List ℕ → Option Doc) (area : List ℕ) (start : ℕ) where
 -- ---- a child with nothing inside that could break a rule
 
 module _ (area : List ℕ) (start : ℕ) (there : isThere (childExtent area start) ≡ true) where
-  pub child-starts : start < length area
-  child-starts =
-      let has = there-some (childExtent area start) there in
-      let fit = extent-fits area start (has .0) (has .1) in
-      let least = extent-positive (drop start area) (fit .0) in
-      omega arith
-
-  first-own : (size : ℕ) (long : childExtent area start ≡ some size) → at (own area start size long) 0 ≡ at area start
-  first-own size long =
-      let least : 1 ≤ size = extent-positive (drop start area) (extent-fits area start size long .0) in
-      getD-take (start + size - start) (drop start area) 0 0 (omega arith) ∙ getD-drop start area 0 0 ∙ ap (at area) (add-zero start)
-
   pub child-plain : (levels : ℕ) (names : Dictionary) → (levels ≡ 0 → ⊥) → (b : Bool) → b ≡ plainBy (readingOf (at area start)) → b ≡ true
       → true ≡ childGood (meaningOf levels names) area start
   child-plain levels names some-left b told e =
@@ -114,7 +61,7 @@ module _ (area : List ℕ) (start : ℕ) (there : isThere (childExtent area star
       sym (child-is (meaningOf levels names) area start size long
       ∙ ap (λ (l : List ℕ). isThere (meaningOf levels names l)) (sym (own-is area start size long))
       ∙ plain-good levels names (own area start size long) some-left (own-whole area start size long)
-      (ap (λ (n : ℕ). plainBy (readingOf n)) (first-own size long) ∙ sym told ∙ e))
+      (ap (λ (n : ℕ). plainBy (readingOf n)) (first-own area start size long) ∙ sym told ∙ e))
 
 -- ---- one child more
 
@@ -156,10 +103,10 @@ module _ (inner : List ℕ → Option Doc) (area : List ℕ) (start : ℕ) (more
 pub record InsidesSeen (inner : List ℕ → Option Doc) (s : List ℕ) (c i w : ℕ) (area starts : List ℕ) (count place k : ℕ) : Type 0 where
   pub standing : Standing w count place k
   pub starts-in : count * w ≤ length starts
-  pub starts-small : length starts ≤ 65536
+  pub starts-small : length starts ≤ mostWalked
   pub same-area : area ≡ areaOf c i w s
   pub same-starts : numbers w count starts ≡ startsOf c i w s
-  pub small : length area ≤ 65536
+  pub small : length area ≤ mostWalked
   pub left-there : isThere (childrenAt area (drop k (numbers w count starts))) ≡ true
   pub whole-is : insidesGood inner area (childrenAt area (numbers w count starts)) ≡ insidesGood inner area (childrenAt area (drop k (numbers w count starts)))
 
@@ -203,7 +150,7 @@ module _ {inner : List ℕ → Option Doc} {s : List ℕ} {c i w : ℕ} {area st
     left = sym (ap (λ (l : List ℕ). isThere (childrenAt area l)) next) ∙ seen .left-there
 
     -- what the judging of the child asks
-    pub next-asks : (isThere (childExtent area start) ≡ true) × (length area ≤ 65536)
+    pub next-asks : (isThere (childExtent area start) ≡ true) × (length area ≤ mostWalked)
     next-asks = (there-more inner area start (drop (k + 1) (numbers w count starts)) left .0, seen .small)
 
     -- b is what the judging of the child answered

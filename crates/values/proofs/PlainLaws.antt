@@ -14,7 +14,7 @@ use Rattle.paper.specs.Values.{meaningOf, primitiveMeaning, whole}
 use Rattle.paper.specs.Words.{at, isThere}
 use Rattle.paper.specs.declared.Reading.the-variants.{Fixed, Prefixed, Short, ObjectHead, ArrayHead, Nothing}
 use Rattle.paper.specs.declared.Reading.{Reading}
-use Rattle.values.specs.Children.{plainBy}
+use Rattle.values.specs.Insides.{plainBy}
 use Rattle.numbers.proofs.Table.{entry}
 use Rattle.paper.proofs.WordLaws.{never}
 use Rattle.values.proofs.PrimitiveLaws.{primitive-plain}

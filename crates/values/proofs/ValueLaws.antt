@@ -5,19 +5,23 @@ use mathlib.Core.Option.{Option, none, some}
 use mathlib.Core.Path.{_≡_, refl, sym, ap, _∙_}
 use Prim.Native.Nat.{ℕ, zero, suc, _-_, _≤_, _<_}
 use native.Mathlib.Omega.{arith}
+use lib.Dec.{eqb}
 use lib.ListN.{length, drop}
+use Rattle.paper.specs.Bounds.{mostWalked}
+use Rattle.paper.proofs.MeaningLaws.{string-there, prefixed-there}
 use Rattle.paper.specs.FirstBytes.{readingOf}
 use Rattle.paper.specs.Metadata.{Dictionary, rising}
 use Rattle.paper.specs.Values.{Child, childrenAt, primitiveMeaning, meaningBy, meaningOf, areaOf, startsOf, idsOf, namesAt, whole, extentBy}
 use Rattle.paper.specs.Words.{at, isThere, allBelow}
 use Rattle.paper.specs.declared.Reading.the-variants.{Fixed, Prefixed, Short, ObjectHead, ArrayHead, Nothing}
 use Rattle.paper.specs.declared.Reading.{Reading}
-use Rattle.values.specs.Children.{onceIn, tiledIn, insidesGood}
-use Rattle.values.specs.Layouts.{Container}
+use Rattle.containers.specs.Children.{onceIn, tiledIn}
+use Rattle.containers.specs.Layouts.{Container}
+use Rattle.values.specs.Insides.{insidesGood}
 use Rattle.heads.proofs.HeadLaws.{extent-some}
 use Rattle.heads.proofs.ReadingLaws.{object-sizes, array-sizes}
 use Rattle.paper.proofs.WordLaws.{never, given-passed, and-both}
-use Rattle.values.proofs.LayoutLaws.{ids-starts-length}
+use Rattle.containers.proofs.LayoutLaws.{ids-starts-length}
 use Rattle.values.proofs.PrimitiveLaws.{whole-extent}
 use Rattle.values.proofs.VerdictLaws.{array-verdict, object-verdict}
 
@@ -61,7 +65,7 @@ module _ (s : List ℕ) (fills : whole s ≡ true) (r : Reading) (told : r ≡ r
   pub fixed-asks : (code size : ℕ) → r ≡ Fixed code size → (whole s ≡ true) × (readingOf (at s 0) ≡ Fixed code size)
   fixed-asks code size e = (fills, sym told ∙ e)
 
-  pub array-container : (c w : ℕ) → r ≡ ArrayHead c w → length s ≤ 65536 → Container s c 0 w
+  pub array-container : (c w : ℕ) → r ≡ ArrayHead c w → length s ≤ mostWalked → Container s c 0 w
   unfolding extentBy
   array-container c w e small =
       let sizes = array-sizes (at s 0) (sym told ∙ e) in
@@ -75,7 +79,7 @@ module _ (s : List ℕ) (fills : whole s ≡ true) (r : Reading) (told : r ≡ r
         small = small;
       }
 
-  pub object-container : (c i w : ℕ) → r ≡ ObjectHead c i w → length s ≤ 65536 → Container s c i w
+  pub object-container : (c i w : ℕ) → r ≡ ObjectHead c i w → length s ≤ mostWalked → Container s c i w
   unfolding extentBy
   object-container c i w e small =
       let sizes = object-sizes (at s 0) (sym told ∙ e) in
@@ -127,12 +131,12 @@ module _ (levels : ℕ) (names : Dictionary) (s : List ℕ) (some-left : levels 
     value-fixed code size e b f = f ∙ sym (by (Fixed code size) e)
 
     pub value-prefixed : (code : ℕ) → r ≡ Prefixed code → true ≡ isThere (meaningOf levels names s)
-    unfolding meaningBy isThere
-    value-prefixed code e = sym (by (Prefixed code) e)
+    unfolding meaningBy
+    value-prefixed code e = sym (by (Prefixed code) e ∙ prefixed-there (eqb code 16) code (drop 5 s))
 
     pub value-short : (size : ℕ) → r ≡ Short size → true ≡ isThere (meaningOf levels names s)
-    unfolding meaningBy isThere
-    value-short size e = sym (by (Short size) e)
+    unfolding meaningBy
+    value-short size e = sym (by (Short size) e ∙ string-there (drop 1 s))
 
     pub value-nothing : r ≡ Nothing → false ≡ isThere (meaningOf levels names s)
     unfolding meaningBy isThere
@@ -157,7 +161,7 @@ module _ (levels : ℕ) (names : Dictionary) (s : List ℕ) (some-left : levels 
 
     -- ---- an object
 
-    module _ (c i w : ℕ) (e : r ≡ ObjectHead c i w) (small : length s ≤ 65536) where
+    module _ (c i w : ℕ) (e : r ≡ ObjectHead c i w) (small : length s ≤ mostWalked) where
       object-is : isThere (meaningOf levels names s)
           ≡ (allBelow (length names) (idsOf c i s) && rising (namesAt names (idsOf c i s)))
           && (onceIn (length (areaOf c i w s)) (childrenAt (areaOf c i w s) (startsOf c i w s))

@@ -1,19 +1,52 @@
 -- When a container is lawful: an array when its children lie end to end and are lawful inside, an object when its names
 -- rise, every byte of its area is in exactly one child and the children are lawful inside.
 use mathlib.Core.Bool.{Bool, true, false, _&&_}
-use mathlib.Core.List.{List, []}
+use mathlib.Core.List.{List, [], _∷_}
 use mathlib.Core.Option.{Option, none, some}
 use mathlib.Core.Path.{_≡_, refl, sym, ap, _∙_}
 use Prim.Native.Nat.{ℕ}
+use native.Mathlib.Omega.{arith}
 use lib.ListN.{length, length-map}
-use Rattle.paper.specs.Meaning.{Doc, array, object}
+use Rattle.paper.specs.Meaning.{Doc, Docs, doc, Fields, field, array, object}
 use Rattle.paper.specs.Metadata.{Dictionary, rising}
-use Rattle.paper.specs.Values.{Child, childrenAt, endToEnd, everyByteOnce, elementDocs, memberDocs, elementsOf, membersOf, areaOf, startsOf, idsOf, namesAt, meaningBy}
+use Rattle.paper.specs.Values.{Child, childrenAt, endToEnd, everyByteOnce, elementDocs, memberDocs, childBytes, elementsOf, membersOf, areaOf, startsOf, idsOf, namesAt, meaningBy}
 use Rattle.paper.specs.Words.{given, andThen, isThere, allBelow}
 use Rattle.paper.specs.declared.Reading.the-variants.{ObjectHead, ArrayHead}
-use Rattle.values.specs.Children.{onceIn, tiledIn, allGood, insidesGood}
+use Rattle.containers.specs.Children.{onceIn, tiledIn}
+use Rattle.values.specs.Insides.{allGood, insidesGood}
 use Rattle.paper.proofs.WordLaws.{never, there-then}
-use Rattle.values.proofs.ChildLaws.{SizedIn, children-sized, children-below, there-elements, there-members}
+use Rattle.containers.proofs.ChildLaws.{SizedIn, children-sized, children-below}
+
+-- ---- the insides of children
+
+there-elements : (inner : List ℕ → Option Doc) (area : List ℕ) (children : List Child)
+    → isThere (elementDocs inner area children) ≡ allGood inner area children
+unfolding elementDocs allGood isThere andThen
+there-elements inner area [] = refl
+there-elements inner area (child ∷ more) = go (inner (childBytes area child)) (elementDocs inner area more) (there-elements inner area more)
+  where
+    go : (x : Option Doc) (rest : Option Docs) → isThere rest ≡ allGood inner area more
+        → isThere (andThen x λ d. andThen rest λ ds. some (doc d ds)) ≡ isThere x && allGood inner area more
+    go none rest e = refl
+    go (some d) none e = e
+    go (some d) (some ds) e = e
+
+there-members : (inner : List ℕ → Option Doc) (area : List ℕ) (names : List (List ℕ)) (children : List Child) → length names ≡ length children
+    → isThere (memberDocs inner area names children) ≡ allGood inner area children
+unfolding memberDocs allGood isThere andThen
+there-members inner area [] [] e = refl
+there-members inner area [] (child ∷ more) e = absurd (omega arith)
+there-members inner area (name ∷ names) [] e = absurd (omega arith)
+there-members inner area (name ∷ names) (child ∷ more) e =
+    go (inner (childBytes area child)) (memberDocs inner area names more) (there-members inner area names more (omega arith))
+  where
+    go : (x : Option Doc) (rest : Option Fields) → isThere rest ≡ allGood inner area more
+        → isThere (andThen x λ d. andThen rest λ fs. some (field name d fs)) ≡ isThere x && allGood inner area more
+    go none rest e = refl
+    go (some d) none e = e
+    go (some d) (some fs) e = e
+
+-- ---- the verdicts
 
 module _ (inner : List ℕ → Option Doc) (names : Dictionary) (s : List ℕ) where
   pub array-verdict : (c w : ℕ)

@@ -1,4 +1,2 @@
 -- What the walker's inner functions answer, in the words of 01's values.
-pub mod Children
-pub mod Marks
-pub mod Layouts
+pub mod Insides

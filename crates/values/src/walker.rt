@@ -3,6 +3,7 @@ ghost use mathlib.Core.Path.{_≡_};
 ghost use mathlib.Core.Bool.{true};
 ghost use Prim.Native.Nat.{_≤_};
 ghost use lib.ListN.{length, drop};
+ghost use Rattle.paper.specs.Bounds.{mostWalked};
 ghost use Rattle.paper.specs.Words.{at, isThere};
 ghost use Rattle.paper.specs.FirstBytes.{readingOf};
 ghost use Rattle.paper.specs.Metadata.{namesIn};
@@ -10,12 +11,12 @@ ghost use Rattle.paper.specs.Values.{areaOf, startsOf, childExtent, childrenAt,
 ghost use Rattle.paper.specs.declared.Reading.the-variants.{Fixed};
 ghost use Rattle.dictionary.specs.Judging.{Opened};
 ghost use Rattle.heads.specs.Packing.{Readings};
-ghost use Rattle.values.specs.Children.{plainBy, childGood, insidesGood};
-ghost use Rattle.values.specs.Layouts.{Container};
-use crate::children::child_extent;
-use crate::shape::array_lies;
-use crate::shape::layout_of;
-use crate::shape::object_lies;
+ghost use Rattle.values.specs.Insides.{plainBy, childGood, insidesGood};
+ghost use Rattle.containers.specs.Layouts.{Container};
+use containers::array_lies;
+use containers::child_extent;
+use containers::layout_of;
+use containers::object_lies;
 use dictionary::Names;
 use heads::Extent;
 use paper::Reading;
@@ -65,7 +66,7 @@ fn child(
     area: &[u8],
     start: usize,
 ) -> bool
-    requires { ⌜ Opened (now metadata) names × Readings (now readings) × (isThere (childExtent (now area) start) ≡ true) × (length (now area) ≤ 65536) ⌝ }
+    requires { ⌜ Opened (now metadata) names × Readings (now readings) × (isThere (childExtent (now area) start) ≡ true) × (length (now area) ≤ mostWalked) ⌝ }
     ensures { λ r. ⌜ r ≡ childGood (meaningOf levels (namesIn (now (metadata .entry)))) (now (area .entry)) start ⌝ }
 {
     if levels != 0 {
@@ -115,7 +116,7 @@ fn insides(
 
 // Bytes that a value fills are lawful, within so many levels.
 pub fn value(levels: usize, readings: &[u8], metadata: &[u8], names: Names, s: &[u8]) -> bool
-    requires { ⌜ Opened (now metadata) names × Readings (now readings) × (whole (now s) ≡ true) × (length (now s) ≤ 65536) ⌝ }
+    requires { ⌜ Opened (now metadata) names × Readings (now readings) × (whole (now s) ≡ true) × (length (now s) ≤ mostWalked) ⌝ }
     ensures { λ r. ⌜ r ≡ isThere (meaningOf levels (namesIn (now (metadata .entry))) (now (s .entry))) ⌝ }
 {
     if levels == 0 {

@@ -1,7 +1,7 @@
 -- The cell reader never hands out a NaN as a number, so that the bits of what it hands out can be had; and a float's or a
 -- double's pattern, of a NaN too, is the first word of its cell.
 use mathlib.Core.Bool.{Bool, true, false, not, cond}
-use mathlib.Core.List.{List}
+use mathlib.Core.List.{List, [], _∷_}
 use mathlib.Core.Option.{Option, none, some}
 use mathlib.Core.Path.{_≡_, refl, sym, ap, _∙_}
 use Prim.Native.Nat.{ℕ, _*_, _<_}
@@ -9,15 +9,17 @@ use lib.Dec.{eqb, leb}
 use lib.Ieee.Bits.{nanBits-is, toBits-ofBits}
 use lib.Ieee.{Float, Format, top, ofBits, toBits, nanBits, isNan, binary32, binary64}
 use lib.ListN.{length}
+use Rattle.paper.specs.Answers.{cellValues}
 use Rattle.paper.specs.Cells.{cellMeaning, numberCell, handedOut}
 use Rattle.paper.specs.Limits.{mostCell}
 use Rattle.paper.specs.Meaning.{Scalar, boolean, payload, text}
 use Rattle.paper.specs.Operations.{cellOutcome, cellReadBy, cellAnswer}
-use Rattle.paper.specs.Refusals.{reached, unless, orElse}
-use Rattle.paper.specs.Schemas.{columnCode}
+use Rattle.paper.specs.Refusals.{reached, require, obtain}
+use Rattle.paper.specs.Schemas.{Column, columnOf}
+use Rattle.paper.specs.Words.{at}
 use Rattle.paper.specs.declared.Cell.{Cell}
 use Rattle.paper.specs.declared.Refusal.the-variants.{TooLong, BadSchema, BadRow}
-use Rattle.words.specs.CellParts.{firstOf, hasBits, answerHasBits}
+use Rattle.words.specs.CellParts.{hasBits, answerHasBits}
 use denote.Floats.{passes}
 
 -- Off a NaN's pattern, the number of the bits is no NaN.
@@ -25,11 +27,11 @@ no-nan : (f : Format) (n : ℕ) → nanBits f n ≡ false → not (isNan (ofBits
 no-nan f n e = ap not (sym (nanBits-is f n) ∙ e)
 
 -- Over the format, the cell of a number and that of a NaN: whatever the pattern, the first word is the pattern.
-pub bits-kept : (f : Format) (held : Float → Cell) (nan : ℕ → Cell) → ((x : Float) → firstOf (held x) ≡ toBits f x) → ((n : ℕ) → firstOf (nan n) ≡ n)
-    → (n : ℕ) → n < 2 * top f → firstOf (cond (nanBits f n) (nan n) (held (ofBits f n))) ≡ n
+pub bits-kept : (f : Format) (held : Float → Cell) (nan : ℕ → Cell) → ((x : Float) → at (cellValues (held x)) 1 ≡ toBits f x) → ((n : ℕ) → at (cellValues (nan n)) 1 ≡ n)
+    → (n : ℕ) → n < 2 * top f → at (cellValues (cond (nanBits f n) (nan n) (held (ofBits f n)))) 1 ≡ n
 bits-kept f held nan of-number of-nan n small = go (nanBits f n) refl
   where
-    go : (is : Bool) → nanBits f n ≡ is → firstOf (cond is (nan n) (held (ofBits f n))) ≡ n
+    go : (is : Bool) → nanBits f n ≡ is → at (cellValues (cond is (nan n) (held (ofBits f n)))) 1 ≡ n
     go true e = of-nan n
     go false e = of-number (ofBits f n) ∙ toBits-ofBits f n small (passes _ (no-nan f n e))
 
@@ -53,13 +55,17 @@ handed-has-bits (payload type s) = either (eqb type 15) _ _ refl λ _. number-ha
 handed-has-bits (text s) = refl
 
 pub answer-has-bits : (code : ℕ) (s : List ℕ) → answerHasBits (cellAnswer code s) ≡ true
-unfolding cellAnswer cellReadBy cellOutcome unless orElse
-answer-has-bits code s = go (leb (length s) mostCell) (columnCode code) (cellMeaning code s)
+unfolding cellAnswer cellReadBy cellOutcome require obtain
+answer-has-bits code s = go (leb (length s) mostCell) (columnOf (code ∷ []))
   where
-    go : (short known : Bool) (meaning : Option Scalar)
-        → answerHasBits (cellReadBy (unless TooLong short (unless BadSchema known (orElse BadRow meaning λ value. reached (handedOut value)))))
+    read : (meaning : Option Scalar) → answerHasBits (cellReadBy (obtain meaning BadRow λ value. reached (handedOut value))) ≡ true
+    read none = refl
+    read (some value) = handed-has-bits value
+
+    go : (short : Bool) (known : Option Column)
+        → answerHasBits (cellReadBy (require short TooLong
+        (obtain known BadSchema λ column. obtain (cellMeaning column s) BadRow λ value. reached (handedOut value))))
         ≡ true
-    go false known meaning = refl
-    go true false meaning = refl
-    go true true none = refl
-    go true true (some value) = handed-has-bits value
+    go false known = refl
+    go true none = refl
+    go true (some column) = read (cellMeaning column s)

@@ -1,18 +1,20 @@
 -- A word: that each of its parts is read back from its bits, as the header's macros do, and that it fits 64 bits.
-use mathlib.Core.Bool.{Bool, true, false, _&&_}
-use mathlib.Core.Path.{_≡_, refl, sym, _∙_}
+use mathlib.Core.Bool.{Bool, true, false, cond, _&&_}
+use mathlib.Core.Path.{_≡_, refl}
 use Prim.Native.Nat.{ℕ, _/_, _%_, _^_, _≤_, _<_}
 use native.Mathlib.Omega.{arith}
 use borrow.Author.Tests.{ltb-true}
 use lib.Dec.{ltb}
 use mir.Val.{boolByte}
-use Rattle.paper.specs.Words.{oneIf}
-use Rattle.words.specs.Boundary.{word}
+use Rattle.paper.specs.Answers.{Carried, done, absent, refusal, short, numberOf, presentOf}
+use Rattle.paper.specs.Refusals.{refusalNumber}
+use Rattle.paper.specs.declared.Refusal.the-variants.{TooLong, BadMetadata, BadValue, BadSchema, BadPath, BadRow, BrokenRule, TooLarge}
+use Rattle.paper.specs.declared.Refusal.{Refusal}
+use Rattle.words.specs.Boundary.{word, part, wordWith, hasRoom}
 use Rattle.paper.proofs.WordLaws.{and-both}
 
 -- A flag as the code makes it is 0 or 1.
-pub flag : (present : Bool) → boolByte present ≡ oneIf present
-unfolding oneIf
+pub flag : (present : Bool) → boolByte present ≡ cond present 1 0
 flag true = refl
 flag false = refl
 
@@ -26,36 +28,53 @@ parts-fit first second e =
     let both = and-both (ltb first (2 ^ 24)) (ltb second (2 ^ 24)) e in
     (ltb-true first (2 ^ 24) (both .0), ltb-true second (2 ^ 24) (both .1))
 
--- ---- the parts of a word
+-- ---- what the header's macros read of a word
 
-module _ (number present first second : ℕ) (n : number < 256) (p : present < 2) (f : first < 2 ^ 24) (s : second < 2 ^ 24) where
-  pub word-fits : word number present first second < 2 ^ 64
-  unfolding word
-  word-fits = omega arith
+pub record Parts (whole number present first second : ℕ) : Type 0 where
+  pub fits : whole < 2 ^ 64
+  pub number-is : whole % 256 ≡ number
+  pub present-is : whole / 256 % 2 ≡ present
+  pub unused : whole / 512 % 128 ≡ 0
+  pub first-is : whole / 2 ^ 16 % 2 ^ 24 ≡ first
+  pub second-is : whole / 2 ^ 40 ≡ second
 
-  pub word-number : word number present first second % 256 ≡ number
-  unfolding word
-  word-number = omega arith
+word-parts : (number present first second : ℕ) → number < 256 → present < 2 → first < 2 ^ 24 → second < 2 ^ 24
+    → Parts (word number present first second) number present first second
+word-parts number present first second n p f s =
+    record {
+      fits = omega arith;
+      number-is = omega arith;
+      present-is = omega arith;
+      unused = omega arith;
+      first-is = omega arith;
+      second-is = omega arith;
+    }
 
-  pub word-present : word number present first second / 256 % 2 ≡ present
-  unfolding word
-  word-present = omega arith
+-- The number and the values of an answer, as far as its word has them.
+pub answer-parts : (count : ℕ) (carried : Carried) → hasRoom count carried ≡ true
+    → Parts (wordWith count carried) (numberOf carried) (presentOf carried) (part count carried 0) (part count carried 1)
+answer-parts count carried room =
+    let fit = parts-fit (part count carried 0) (part count carried 1) room in
+    word-parts (numberOf carried) (presentOf carried) _ _ (number-small carried) (present-small carried) (fit .0) (fit .1)
+  where
+    refusal-small : (r : Refusal) → refusalNumber r < 256
+    refusal-small TooLong = omega arith
+    refusal-small BadMetadata = omega arith
+    refusal-small BadValue = omega arith
+    refusal-small BadSchema = omega arith
+    refusal-small BadPath = omega arith
+    refusal-small BadRow = omega arith
+    refusal-small BrokenRule = omega arith
+    refusal-small TooLarge = omega arith
 
-  -- Bits 9 to 15.
-  pub word-unused : word number present first second / 512 % 128 ≡ 0
-  unfolding word
-  word-unused = omega arith
+    number-small : (carried : Carried) → numberOf carried < 256
+    number-small (done values) = omega arith
+    number-small absent = omega arith
+    number-small (refusal r) = refusal-small r
+    number-small (short needed) = omega arith
 
-  pub word-first : word number present first second / 2 ^ 16 % 2 ^ 24 ≡ first
-  unfolding word
-  word-first = omega arith
-
-  pub word-second : word number present first second / 2 ^ 40 ≡ second
-  unfolding word
-  word-second = omega arith
-
--- ---- no second answer
-
--- A contract that says what the answer is leaves room for one only.
-pub one-answer : {A : Type 0} {r other answer : A} → r ≡ answer → other ≡ answer → r ≡ other
-one-answer is also = is ∙ sym also
+    present-small : (carried : Carried) → presentOf carried < 2
+    present-small (done values) = omega arith
+    present-small absent = omega arith
+    present-small (refusal r) = omega arith
+    present-small (short needed) = omega arith

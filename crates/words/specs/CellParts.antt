@@ -1,57 +1,18 @@
--- A cell at the C boundary: its kind, and the one or two 64-bit words that it holds.
+-- The words of a cell: what stands behind the kind in what the answer carries.
 use mathlib.Core.Bool.{Bool, true, not}
 use Prim.Native.Nat.{ℕ}
-use lib.Ieee.{toBits, isNan, binary32, binary64}
-use Rattle.numbers.specs.Little.{number}
-use Rattle.numbers.specs.Signed.{signedBytes}
-use Rattle.paper.specs.Words.{oneIf}
+use lib.Ieee.{isNan}
+use Rattle.paper.specs.Answers.{valueOf, cellCarries}
 use Rattle.paper.specs.declared.Cell.{Cell}
 use Rattle.paper.specs.declared.Cell.the-variants.{Boolean, Integer, Float, Double, FloatNan, DoubleNan, Length, Uuid}
 use Rattle.paper.specs.declared.CellAnswer.{CellAnswer}
 use Rattle.paper.specs.declared.CellAnswer.the-variants.{Read, Refused}
 
--- A NaN is a float, or a double, as well.
-abbrev pub cellKind : Cell → ℕ
-cellKind (Boolean b) = 1
-cellKind (Integer z) = 2
-cellKind (Float x) = 3
-cellKind (FloatNan bits) = 3
-cellKind (Double x) = 4
-cellKind (DoubleNan bits) = 4
-cellKind (Length length) = 5
-cellKind (Uuid first second) = 6
-
--- The first word: a boolean as 1 or 0; an integer in two's complement; a float's or a double's bits; a length; a uuid's
--- first number.
-abbrev pub firstOf : Cell → ℕ
-firstOf (Boolean b) = oneIf b
-firstOf (Integer z) = number (signedBytes 8 z)
-firstOf (Float x) = toBits binary32 x
-firstOf (FloatNan bits) = bits
-firstOf (Double x) = toBits binary64 x
-firstOf (DoubleNan bits) = bits
-firstOf (Length length) = length
-firstOf (Uuid first second) = first
-
--- The second word: a uuid's second number, else 0.
-abbrev pub secondOf : Cell → ℕ
-secondOf (Boolean b) = 0
-secondOf (Integer z) = 0
-secondOf (Float x) = 0
-secondOf (FloatNan bits) = 0
-secondOf (Double x) = 0
-secondOf (DoubleNan bits) = 0
-secondOf (Length length) = 0
-secondOf (Uuid first second) = second
-
--- The words of an answer: 0 on a refusal.
 abbrev pub firstWord : CellAnswer → ℕ
-firstWord (Read cell) = firstOf cell
-firstWord (Refused refusal) = 0
+firstWord answer = valueOf (cellCarries answer) 1
 
 abbrev pub secondWord : CellAnswer → ℕ
-secondWord (Read cell) = secondOf cell
-secondWord (Refused refusal) = 0
+secondWord answer = valueOf (cellCarries answer) 2
 
 -- ---- for the inner functions
 

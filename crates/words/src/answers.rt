@@ -1,9 +1,9 @@
 // The word of an answer: its number, whether it is present, and two lengths or values.
 ghost use mathlib.Core.Path.{_≡_};
-ghost use mathlib.Core.Bool.{true};
+ghost use mathlib.Core.Bool.{true, cond};
 ghost use Prim.Native.Nat.{_<_, _^_};
-ghost use Rattle.paper.specs.Words.{oneIf};
-ghost use Rattle.words.specs.Boundary.{word, refusedWord, checkedWord, foundWord, foundFits, documentWord, documentFits};
+ghost use Rattle.paper.specs.Answers.{Carried};
+ghost use Rattle.words.specs.Boundary.{word, wordWith, checkedWord, foundWord, documentWord, foundHasRoom, documentHasRoom};
 use paper::Checked;
 use paper::DocumentAnswer;
 use paper::Found;
@@ -12,7 +12,7 @@ use paper::Refusal;
 // The parts of an answer in one word: the number, whether it is present, and two lengths or values of 24 bits.
 pub fn word(number: u8, present: bool, first: usize, second: usize) -> u64
     requires { ⌜ (first < 2 ^ 24) × (second < 2 ^ 24) ⌝ }
-    ensures { λ r. ⌜ r ≡ word number (oneIf present) first second ⌝ }
+    ensures { λ r. ⌜ r ≡ word number (cond present 1 0) first second ⌝ }
 {
     let low = number as u64 + 256 * (present as u64);
     low + 65536 * (first as u64) + 1099511627776 * (second as u64)
@@ -20,7 +20,7 @@ pub fn word(number: u8, present: bool, first: usize, second: usize) -> u64
 
 // A refusal carries its number and zeros.
 pub fn refused_word(refusal: Refusal) -> u64
-    ensures { λ r. ⌜ r ≡ refusedWord refusal ⌝ }
+    ensures { λ r. ⌜ r ≡ wordWith 2 (Carried.refusal refusal) ⌝ }
 {
     word(paper::number(refusal), false, 0, 0)
 }
@@ -37,7 +37,7 @@ pub fn checked_word(answer: Checked) -> u64
 
 // The word of what find answers: the start and the length in the value.
 pub fn found_word(answer: Found) -> u64
-    requires { ⌜ foundFits answer ≡ true ⌝ }
+    requires { ⌜ foundHasRoom answer ≡ true ⌝ }
     ensures { λ r. ⌜ r ≡ foundWord answer ⌝ }
 {
     match answer {
@@ -49,7 +49,7 @@ pub fn found_word(answer: Found) -> u64
 
 // The word of what normalise and rebuild answer: the lengths written, or the lengths needed with 9.
 pub fn document_word(answer: DocumentAnswer) -> u64
-    requires { ⌜ documentFits answer ≡ true ⌝ }
+    requires { ⌜ documentHasRoom answer ≡ true ⌝ }
     ensures { λ r. ⌜ r ≡ documentWord answer ⌝ }
 {
     match answer {

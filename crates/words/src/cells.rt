@@ -4,8 +4,10 @@ ghost use mathlib.Core.Bool.{true, not};
 ghost use Prim.Native.Nat.{_<_};
 ghost use lib.Dec.{T};
 ghost use lib.Ieee.{isNan, toBits, binary32, binary64};
+ghost use Rattle.paper.specs.Answers.{cellValues};
+ghost use Rattle.paper.specs.Words.{at};
 ghost use Rattle.words.specs.Boundary.{cellWord};
-ghost use Rattle.words.specs.CellParts.{cellKind, firstOf, secondOf, firstWord, secondWord, hasBits, answerHasBits};
+ghost use Rattle.words.specs.CellParts.{firstWord, secondWord, hasBits, answerHasBits};
 use crate::answers::refused_word;
 use crate::answers::word;
 use paper::Cell;
@@ -13,7 +15,7 @@ use paper::CellAnswer;
 
 // The kind of a cell, 1 to 6.
 fn kind_of(cell: Cell) -> usize
-    ensures { λ r. ⌜ (r ≡ cellKind cell) × (r < 7) ⌝ }
+    ensures { λ r. ⌜ (r ≡ at (cellValues cell) 0) × (r < 7) ⌝ }
 {
     match cell {
         Cell::Boolean(_) => 1,
@@ -49,11 +51,11 @@ pub fn double_bits(x: f64) -> u64
 // The first word of a cell.
 fn first_of(cell: Cell) -> u64
     requires { ⌜ hasBits cell ≡ true ⌝ }
-    ensures { λ r. ⌜ r ≡ firstOf cell ⌝ }
+    ensures { λ r. ⌜ r ≡ at (cellValues cell) 1 ⌝ }
 {
     match cell {
         Cell::Boolean(yes) => yes as u64,
-        Cell::Integer(z) => numbers::unsigned(z),
+        Cell::Integer(z) => signed::unsigned(z),
         Cell::Float(x) => float_bits(x) as u64,
         Cell::FloatNan(bits) => bits as u64,
         Cell::Double(x) => double_bits(x),
@@ -65,7 +67,7 @@ fn first_of(cell: Cell) -> u64
 
 // The second word of a cell.
 fn second_of(cell: Cell) -> u64
-    ensures { λ r. ⌜ r ≡ secondOf cell ⌝ }
+    ensures { λ r. ⌜ r ≡ at (cellValues cell) 2 ⌝ }
 {
     match cell {
         Cell::Boolean(_) => 0,

@@ -16,12 +16,13 @@ use Rattle.heads.proofs.HeadLaws.{extent-some}
 use Rattle.heads.proofs.ReadingLaws.{fixed-sizes, prefixed-sizes, short-sizes}
 use Rattle.numbers.proofs.NumberLaws.{bytes-back}
 use Rattle.numbers.specs.Little.{number, numberAt, numberBytes}
+use Rattle.paper.proofs.MeaningLaws.{prefixedDoc}
 use Rattle.paper.proofs.WordLaws.{given-some}
 use Rattle.paper.specs.FirstBytes.{lengthPrefixed, payloadSizes, primitiveReading, countSize, kindReading, readingOf}
 use Rattle.paper.specs.Meaning.{boolean, payload, text, Doc, null, scalar}
 use Rattle.paper.specs.Metadata.{Dictionary}
 use Rattle.paper.specs.Normal.{prefixedBytes, textBytes, scalarBytes, valueBytes}
-use Rattle.paper.specs.Values.{extentBy, primitiveMeaning, prefixedMeaning, whole}
+use Rattle.paper.specs.Values.{extentBy, primitiveMeaning, whole}
 use Rattle.paper.specs.Words.{at}
 use Rattle.paper.specs.declared.Reading.the-variants.{Fixed, Prefixed, Short, ObjectHead, ArrayHead, Nothing}
 use Rattle.paper.specs.declared.Reading.{Reading}
@@ -176,12 +177,12 @@ module _ (s : List ℕ) (fills : whole s ≡ true) where
         let size : length (drop 5 s) ≡ length s - 5 = length-drop 5 s in
         sym (long-text (drop 5 s) (omega arith) ∙ ap (λ (t : ℕ). prefixedBytes t (drop 5 s)) (sym string) ∙ prefixed-same)
 
-    pub prefixed-stands : (normal : Dictionary) → shortened type s ≡ valueBytes normal (prefixedMeaning (eqb type 16) type (drop 5 s))
-    unfolding shortened valueBytes scalarBytes prefixedMeaning
+    pub prefixed-stands : (normal : Dictionary) → shortened type s ≡ valueBytes normal (prefixedDoc (eqb type 16) type (drop 5 s))
+    unfolding shortened valueBytes scalarBytes
     prefixed-stands normal = go (eqb type 16) refl
       where
         go : (b : Bool) → eqb type 16 ≡ b
-            → cond (b && leb (length s) 68) ((4 * (length s - 5) + 1) ∷ drop 5 s) s ≡ valueBytes normal (prefixedMeaning b type (drop 5 s))
+            → cond (b && leb (length s) 68) ((4 * (length s - 5) + 1) ∷ drop 5 s) s ≡ valueBytes normal (prefixedDoc b type (drop 5 s))
         go true e = text-stands (eqb-true type 16 e) (leb (length s) 68) refl
         go false e =
             let sizes = prefixed-sizes (at s 0) is in

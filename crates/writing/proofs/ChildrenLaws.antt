@@ -13,13 +13,14 @@ use Rattle.heads.specs.Extents.{extentAnswer}
 use Rattle.heads.specs.declared.Extent.{Extent}
 use Rattle.heads.specs.declared.Extent.the-variants.{Size, Unknown}
 use Rattle.numbers.specs.Little.{numberAt}
+use Rattle.paper.specs.Bounds.{mostWalked}
 use Rattle.paper.specs.Values.{childExtent, childBytes, areaOf, startsOf}
 use Rattle.paper.specs.Words.{numbers, joined}
-use Rattle.values.proofs.InsideLaws.{own-is, known}
-use Rattle.values.proofs.LayoutLaws.{area-same, starts-same, area-small, starts-there, starts-few}
-use Rattle.values.proofs.RunLaws.{Standing, standing-there, run-here}
-use Rattle.values.specs.Layouts.{Container, LaidOut}
-use Rattle.values.specs.declared.shape.Layout.{Layout}
+use Rattle.containers.proofs.OwnLaws.{own-is, known}
+use Rattle.containers.proofs.LayoutLaws.{area-same, starts-same, area-small, starts-there, starts-few}
+use Rattle.containers.proofs.RunLaws.{Standing, standing-there, run-here}
+use Rattle.containers.specs.Layouts.{Container, LaidOut}
+use Rattle.containers.specs.declared.shape.Layout.{Layout}
 use Rattle.writing.specs.Ends.{EndsAt}
 use Rattle.writing.specs.Rewritten.{partAt, partsOf, rewritten}
 use Rattle.writing.specs.Written.{Writable, WritableChild, Holding}
@@ -41,10 +42,10 @@ joined-drop (one ∷ more) (suc k) =
 pub record ChildrenSeen (levels : ℕ) (s ranks : List ℕ) (c i w : ℕ) (area starts out₀ out : List ℕ) (count end start k : ℕ) : Type 0 where
   pub within : k ≤ count
   pub starts-in : count * w ≤ length starts
-  pub starts-small : length starts ≤ 65536
+  pub starts-small : length starts ≤ mostWalked
   pub same-area : area ≡ areaOf c i w s
   pub same-starts : numbers w count starts ≡ startsOf c i w s
-  pub small : length area ≤ 65536
+  pub small : length area ≤ mostWalked
   pub same-size : length out ≡ length out₀
   pub ends : EndsAt (joined (drop k (partsOf (rewritten levels ranks) c i w s))) out₀ out end start
 

@@ -17,7 +17,7 @@ use Rattle.dictionary.proofs.NumbersRunLaws.{run-length, below-at}
 use Rattle.names.proofs.RunLaws.{numbers-bytes-length}
 use Rattle.numbers.proofs.NumberLaws.{length-number-bytes}
 use Rattle.numbers.proofs.PutLaws.{put-none, put-run, length-put}
-use Rattle.values.proofs.RunLaws.{Standing, standing-start, standing-next, run-next, run-here, run-ended}
+use Rattle.containers.proofs.RunLaws.{Standing, standing-start, standing-next, run-next, run-here, run-ended}
 use Rattle.writing.proofs.EndLaws.{put-ends}
 
 -- A run of ids that are there and in the table.

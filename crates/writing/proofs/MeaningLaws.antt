@@ -11,18 +11,20 @@ use lib.ListN.{length, getD, drop, length-map, length-drop}
 use Rattle.forms.proofs.LieLaws.{Bytes, bytes-drop, child-bytes, child-length, elements-lie, members-lie}
 use Rattle.marking.specs.Ids.{holds, idsOfAll, idsInside, idsBy, idsIn}
 use Rattle.names.proofs.SameLaws.{or-second}
+use Rattle.paper.specs.Bounds.{mostWalked}
+use Rattle.paper.proofs.MeaningLaws.{string-is, prefixed-is}
 use Rattle.paper.proofs.WordLaws.{never, given-some, then-some, some-there}
 use Rattle.paper.specs.FirstBytes.{readingOf}
 use Rattle.paper.specs.Meaning.{Doc, scalar, text, array, object, Docs, noDocs, doc, Fields, noFields, field}
 use Rattle.paper.specs.Metadata.{Dictionary}
 use Rattle.paper.specs.Normal.{idOf, fieldNames, valueBytes, elementBytes, memberBytes}
 use Rattle.numbers.specs.Little.{numberAt}
-use Rattle.paper.specs.Values.{headSize, Child, childExtent, childrenAt, childBytes, areaOf, startsOf, idsOf, namesAt, elementsOf, membersOf, elementDocs, memberDocs, prefixedMeaning, meaningBy, meaningOf, whole}
+use Rattle.paper.specs.Values.{headSize, Child, childExtent, childrenAt, childBytes, areaOf, startsOf, idsOf, namesAt, elementsOf, membersOf, elementDocs, memberDocs, meaningBy, meaningOf, whole}
 use Rattle.paper.specs.Words.{at, isThere}
 use Rattle.paper.specs.declared.Reading.the-variants.{Fixed, Prefixed, Short, ObjectHead, ArrayHead, Nothing}
 use Rattle.paper.specs.declared.Reading.{Reading}
-use Rattle.values.proofs.ChildLaws.{extent-fits}
-use Rattle.values.proofs.LayoutLaws.{ids-starts-length}
+use Rattle.containers.proofs.ChildLaws.{extent-fits}
+use Rattle.containers.proofs.LayoutLaws.{ids-starts-length}
 use Rattle.values.proofs.ValueLaws.{object-container, object-id}
 use Rattle.writing.specs.Rewritten.{ranksAt, sizedPart, partAt, partsOf, rewrittenBy, rewritten}
 use Rattle.writing.specs.Ends.{EndsAt}
@@ -68,9 +70,9 @@ module _ (names normal : Dictionary) (ranks : List ℕ) where
 -- ---- the insides of containers
 
 module _ (names normal : Dictionary) (ranks : List ℕ) (decode : List ℕ → Option Doc) (idsWithin write : List ℕ → List ℕ)
-    (each : (s : List ℕ) (d : Doc) → decode s ≡ some d → Bytes s → length s ≤ 65536 → Right names normal ranks (idsWithin s)
+    (each : (s : List ℕ) (d : Doc) → decode s ≡ some d → Bytes s → length s ≤ mostWalked → Right names normal ranks (idsWithin s)
     → write s ≡ valueBytes normal d)
-    (area : List ℕ) (bytes : Bytes area) (small : length area ≤ 65536) where
+    (area : List ℕ) (bytes : Bytes area) (small : length area ≤ mostWalked) where
   part-written : (start size : ℕ) (d : Doc) → childExtent area start ≡ some size
       → decode (childBytes area (record { start = start; size = size })) ≡ some d
       → Right names normal ranks (idsWithin (childBytes area (record { start = start; size = size }))) → partAt write area start ≡ valueBytes normal d
@@ -134,14 +136,14 @@ names-length names ids = length-map ids (λ (id : ℕ). getD names id [])
 -- ---- any value, by its reading
 
 module _ (names normal : Dictionary) (ranks : List ℕ) (decode : List ℕ → Option Doc) (idsWithin write : List ℕ → List ℕ)
-    (each : (s : List ℕ) (d : Doc) → decode s ≡ some d → Bytes s → length s ≤ 65536 → Right names normal ranks (idsWithin s)
+    (each : (s : List ℕ) (d : Doc) → decode s ≡ some d → Bytes s → length s ≤ mostWalked → Right names normal ranks (idsWithin s)
     → write s ≡ valueBytes normal d)
-    (s : List ℕ) (bytes : Bytes s) (small : length s ≤ 65536) (fills : whole s ≡ true) where
+    (s : List ℕ) (bytes : Bytes s) (small : length s ≤ mostWalked) (fills : whole s ≡ true) where
   area-bytes : (c i w : ℕ) → Bytes (areaOf c i w s)
   unfolding areaOf
   area-bytes c i w = bytes-drop (headSize (numberAt s 1 c) c i w) s bytes
 
-  area-small : (c i w : ℕ) → length (areaOf c i w s) ≤ 65536
+  area-small : (c i w : ℕ) → length (areaOf c i w s) ≤ mostWalked
   unfolding areaOf
   area-small c i w = rw length-drop (omega arith)
 
@@ -156,9 +158,9 @@ module _ (names normal : Dictionary) (ranks : List ℕ) (decode : List ℕ → O
   unfolding meaningBy idsBy rewrittenBy partsOf valueBytes isThere
   written-by (Fixed type size) is d e right = fixed-stands s fills normal type size d is e
   written-by (Prefixed type) is d e right =
-      prefixed-stands s fills bytes type is normal ∙ ap (valueBytes normal) (some-injective (prefixedMeaning (eqb type 16) type (drop 5 s)) d e)
+      prefixed-stands s fills bytes type is normal ∙ ap (valueBytes normal) (sym (prefixed-is (eqb type 16) type (drop 5 s) e))
   written-by (Short size) is d e right =
-      short-stands s fills normal size bytes is ∙ ap (valueBytes normal) (some-injective (scalar (text (drop 1 s))) d e)
+      short-stands s fills normal size bytes is ∙ ap (valueBytes normal) (sym (string-is (drop 1 s) e))
   written-by (ObjectHead c i w) is d e right =
       let lie = then-some (membersOf names c i w s) _ e in
       let inside = then-some (memberDocs decode (areaOf c i w s) (namesAt names (idsOf c i s)) (lie .0)) _ (lie .2) in
@@ -183,7 +185,7 @@ module _ (names normal : Dictionary) (ranks : List ℕ) (decode : List ℕ → O
       rw parts (ap (valueBytes normal) (some-injective (array (inside .0)) d (inside .2)))
   written-by Nothing is d e right = never (sym (some-there none e))
 
-pub rewritten-is : (levels : ℕ) (names normal : Dictionary) (ranks s : List ℕ) (d : Doc) → meaningOf levels names s ≡ some d → Bytes s → length s ≤ 65536
+pub rewritten-is : (levels : ℕ) (names normal : Dictionary) (ranks s : List ℕ) (d : Doc) → meaningOf levels names s ≡ some d → Bytes s → length s ≤ mostWalked
     → Right names normal ranks (idsIn levels s) → rewritten levels ranks s ≡ valueBytes normal d
 unfolding meaningOf isThere idsIn rewritten
 rewritten-is zero names normal ranks s d e bytes small right = never (sym (some-there none e))

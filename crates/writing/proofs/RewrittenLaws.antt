@@ -13,6 +13,7 @@ use Rattle.forms.proofs.ScalarLaws.{Filled, scalar-written}
 use Rattle.forms.specs.WellFormed.{scalarGood}
 use Rattle.heads.proofs.HeadLaws.{extent-some}
 use Rattle.marking.specs.Ids.{idsBy, idsIn}
+use Rattle.paper.specs.Bounds.{mostWalked}
 use Rattle.paper.proofs.WordLaws.{never, there-given, given-some, and-both}
 use Rattle.paper.specs.FirstBytes.{readingOf}
 use Rattle.paper.specs.Meaning.{text}
@@ -22,9 +23,9 @@ use Rattle.paper.specs.Values.{extentBy, areaOf, startsOf, idsOf, meaningBy, me
 use Rattle.paper.specs.Words.{at, isThere, numbers}
 use Rattle.paper.specs.declared.Reading.the-variants.{Fixed, Prefixed, Short, ObjectHead, ArrayHead, Nothing}
 use Rattle.paper.specs.declared.Reading.{Reading}
-use Rattle.values.proofs.LayoutLaws.{starts-there, starts-same, ids-starts-length}
-use Rattle.values.specs.Layouts.{Container, LaidOut}
-use Rattle.values.specs.declared.shape.Layout.{Layout}
+use Rattle.containers.proofs.LayoutLaws.{starts-there, starts-same, ids-starts-length}
+use Rattle.containers.specs.Layouts.{Container, LaidOut}
+use Rattle.containers.specs.declared.shape.Layout.{Layout}
 use Rattle.dictionary.proofs.NumbersRunLaws.{rest, run-length}
 use Rattle.values.proofs.PrimitiveLaws.{whole-extent}
 use Rattle.values.proofs.ValueLaws.{object-container, object-id}
@@ -108,7 +109,7 @@ module _ (inner : List ℕ → List ℕ) {s : List ℕ} {c i w : ℕ} (container
   ids-counted ranks least =
       length-map (idsOf c i s) (λ (id : ℕ). getD ranks id 0) ∙ ids-starts-length s c i w container least ∙ sym (parts-length inner c i w s)
 
-pub rewritten-filled : (levels : ℕ) (names : Dictionary) (ranks s : List ℕ) → isThere (meaningOf levels names s) ≡ true → length s ≤ 65536
+pub rewritten-filled : (levels : ℕ) (names : Dictionary) (ranks s : List ℕ) → isThere (meaningOf levels names s) ≡ true → length s ≤ mostWalked
     → length (rewritten levels ranks s) < 2 ^ 32 → Filled (rewritten levels ranks s)
 unfolding rewrittenBy ranksAt
 rewritten-filled levels names ranks s e small fit = go (readingOf (at s 0)) refl

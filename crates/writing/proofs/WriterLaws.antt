@@ -17,12 +17,12 @@ use Rattle.paper.specs.Values.{headSize, childrenAt, areaOf, startsOf, idsOf, n
 use Rattle.paper.specs.Words.{at, numbers, allBelow, joined}
 use Rattle.paper.specs.declared.Reading.the-variants.{Fixed, Prefixed, Short, ObjectHead, ArrayHead, Nothing}
 use Rattle.paper.specs.declared.Reading.{Reading}
-use Rattle.values.proofs.LayoutLaws.{count-there, ids-there, ids-same, ids-starts-length}
+use Rattle.containers.proofs.LayoutLaws.{count-there, ids-there, ids-same, ids-starts-length}
 use Rattle.values.proofs.ValueLaws.{whole-some, array-container, object-container, object-id}
 use Rattle.values.proofs.VerdictLaws.{array-verdict, object-verdict}
-use Rattle.values.specs.Children.{tiledIn, onceIn}
-use Rattle.values.specs.Layouts.{Container, LaidOut}
-use Rattle.values.specs.declared.shape.Layout.{Layout}
+use Rattle.containers.specs.Children.{tiledIn, onceIn}
+use Rattle.containers.specs.Layouts.{Container, LaidOut}
+use Rattle.containers.specs.declared.shape.Layout.{Layout}
 use Rattle.writing.specs.Ends.{EndsAt, Lies, Lying}
 use Rattle.writing.specs.Heads.{arrayHead, objectHead}
 use Rattle.writing.specs.Rewritten.{ranksAt, shortened, partsOf, rewrittenBy, rewritten}

@@ -33,7 +33,7 @@ fn children(
     requires { ⌜ Readings (now readings) × Holding levels (now s) (now ranks) counted id width (length (now out)) end ⌝ }
     ensures { λ r. ⌜ EndsAt (joined (partsOf (rewritten levels (now (ranks .entry))) counted id width (now (s .entry)))) (now (out .entry)) (now (out .exit)) end r ⌝ }
 {
-    let l = values::layout_of(s, counted, id, width);
+    let l = containers::layout_of(s, counted, id, width);
     let from = l.area;
     let at = l.starts;
     let count = l.count;
@@ -43,7 +43,7 @@ fn children(
     let mut i = count;
     while 0 < i {
         let child = numbers::read(starts, (i - 1) * width, width);
-        let Extent::Size(size) = values::child_extent(readings, area, child) else {
+        let Extent::Size(size) = containers::child_extent(readings, area, child) else {
             return start;
         };
         let to = child + size;
@@ -71,13 +71,13 @@ fn written(
         Reading::Prefixed { code } => prefixed(code, s, out, end),
         Reading::Short { size: _ } => copied(s, out, end),
         Reading::ObjectHead { count, id, offset } => {
-            let l = values::layout_of(s, count, id, offset);
+            let l = containers::layout_of(s, count, id, offset);
             let start = children(levels - 1, readings, ranks, s, count, id, offset, out, end);
             let ids = 1 + count;
             object_head(readings, ranks, &s[ids..], id, l.count, out, start, end)
         }
         Reading::ArrayHead { count, offset } => {
-            let l = values::layout_of(s, count, 0, offset);
+            let l = containers::layout_of(s, count, 0, offset);
             let start = children(levels - 1, readings, ranks, s, count, 0, offset, out, end);
             array_head(readings, l.count, out, start, end)
         }

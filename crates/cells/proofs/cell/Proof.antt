@@ -9,48 +9,14 @@ use Rattle.cells.proofs.cell.Tie as tie
 returns : tie.Need-returns
 returns c = too-long _ _ (c .if1 .taken)
 
-column-code-requires : tie.Need-column-code-requires
-column-code-requires c κs = search needs
-
-returns-2 : tie.Need-returns-2
-returns-2 c = search (needs, no-code)
-
-yes-no-requires : tie.Need-yes-no-requires
-yes-no-requires c κs = search needs
-
 returns-3 : tie.Need-returns-3
 returns-3 c = c .yes-no .ensures ∙ rw (c .before .if3 .taken)
-
-returns-4 : tie.Need-returns-4
-returns-4 c = search (needs, binary-read)
-
-returns-5 : tie.Need-returns-5
-returns-5 c = search (needs, string-read)
-
-payload-size-requires : tie.Need-payload-size-requires
-payload-size-requires c κs = search (needs, code-most)
-
-returns-6 : tie.Need-returns-6
-returns-6 c = search (needs, wrong-size)
-
-number-cell-requires : tie.Need-number-cell-requires
-number-cell-requires c κs = search (needs, number-sized)
-
-returns-7 : tie.Need-returns-7
-returns-7 c = search (needs, number-read)
 
 pub cell-spec : {M : Type 1} → statement M
 cell-spec =
     tie.close
-    (tie.spec
-    returns
-    column-code-requires
-    returns-2
-    yes-no-requires
-    returns-3
-    returns-4
-    returns-5
-    payload-size-requires
-    returns-6
-    number-cell-requires
-    returns-7)
+    (tie.spec returns
+    (λ c κs. search needs) (λ c. search (needs, no-code))
+    (λ c κs. search needs) returns-3 (λ c. search (needs, binary-read)) (λ c. search (needs, string-read))
+    (λ c κs. search (needs, code-most)) (λ c. search (needs, wrong-size)) (λ c κs. search (needs, number-sized))
+    (λ c. search (needs, number-read)))

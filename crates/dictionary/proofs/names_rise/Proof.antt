@@ -11,28 +11,16 @@ Inv-loop run width count area last from₀ to₀ place₀ i₀ from to place i =
 abbrev μ-loop : tie.MeasureT-loop
 μ-loop run width count area last from₀ to₀ place₀ i₀ from to place i = last - i
 
-returns : tie.Need-returns Inv-loop μ-loop
-returns c = search (needs, rise-none)
-
-sub-last : tie.Need-sub-last Inv-loop μ-loop
-sub-last c = search needs
-
 read-requires : tie.Need-read-requires Inv-loop μ-loop
 read-requires c κs =
     let pre = c .before .before .before .pre in
     (second-there _ _ _ _ pre (c .if1 .left), pre .1, pre .2)
-
-loop-holds : tie.Need-loop-holds Inv-loop μ-loop
-loop-holds c = search (needs, rise-starts)
 
 add-place : tie.Need-add-place Inv-loop μ-loop
 add-place c =
     let loop = c .before in
     let there = rise-there _ _ _ _ (loop .before .before .before .before .before .pre) _ _ _ _ (loop .loop .inv) (c .loop-test .taken) in
     search needs
-
-read-requires-2 : tie.Need-read-requires-2 Inv-loop μ-loop
-read-requires-2 c κs = search (needs, rise-there)
 
 rises-requires : tie.Need-rises-requires Inv-loop μ-loop
 rises-requires c κs =
@@ -45,36 +33,16 @@ returns-2 c =
     let loop = read .before .before in
     rise-not _ _ _ _ (loop .before .before .before .before .before .pre) _ _ _ _ (loop .loop .inv) (read .before .loop-test .taken) _ (read .read2 .ensures) _ (c .before .rises .ensures) (c .if2 .taken)
 
-add-i : tie.Need-add-i Inv-loop μ-loop
-add-i c = search needs
-
-loop-less : tie.Need-loop-less Inv-loop μ-loop
-loop-less c = search needs
-
 loop-again : tie.Need-loop-again Inv-loop μ-loop
 loop-again c =
     let read = c .before .before in
     let loop = read .before .before in
     rise-on _ _ _ _ (loop .before .before .before .before .before .pre) _ _ _ _ (loop .loop .inv) (read .before .loop-test .taken) _ (read .read2 .ensures) _ (c .before .rises .ensures) (c .if2 .left)
 
-returns-3 : tie.Need-returns-3 Inv-loop μ-loop
-returns-3 c = search (needs, rise-ends)
-
 pub names-rise-spec : {M : Type 1} → statement M
 names-rise-spec =
     tie.close
-    (tie.spec
-    Inv-loop
-    μ-loop
-    returns
-    sub-last
-    read-requires
-    loop-holds
-    add-place
-    read-requires-2
-    rises-requires
-    returns-2
-    add-i
-    loop-less
-    loop-again
-    returns-3)
+    (tie.spec Inv-loop μ-loop (λ c. search (needs, rise-none))
+    (λ c. search needs) read-requires (λ c. search (needs, rise-starts)) add-place
+    (λ c κs. search (needs, rise-there)) rises-requires returns-2
+    (λ c. search needs) (λ c. search needs) loop-again (λ c. search (needs, rise-ends)))

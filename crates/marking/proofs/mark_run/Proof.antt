@@ -2,7 +2,7 @@
 use Prim.Native.Nat.{_-_}
 use borrow.Author.Needs.{needs}
 use Rattle.marking.proofs.RunLaws.{RunSeen, run-start, run-inside, run-marked, run-done}
-use Rattle.values.proofs.RunLaws.{standing-there, standing-fits}
+use Rattle.containers.proofs.RunLaws.{standing-there, standing-fits}
 use Rattle.marking.proofs.mark_run.Statement.{statement}
 use Rattle.marking.proofs.mark_run.Tie as tie
 
@@ -15,11 +15,11 @@ abbrev μ-loop : tie.MeasureT-loop
 loop-holds : tie.Need-loop-holds Inv-loop μ-loop
 loop-holds c = run-start _ _ _ _
 
-read-requires : tie.Need-read-requires Inv-loop μ-loop
-read-requires c κs = search (needs, standing-there)
+input-id-at-requires : tie.Need-input-id-at-requires Inv-loop μ-loop
+input-id-at-requires c κs = search (needs, standing-there)
 
-slice-write-used : tie.Need-slice-write-used Inv-loop μ-loop
-slice-write-used c = search (needs, run-inside)
+mark-id-requires : tie.Need-mark-id-requires Inv-loop μ-loop
+mark-id-requires c κs = search (needs, run-inside)
 
 add-place : tie.Need-add-place Inv-loop μ-loop
 add-place c = search (needs, standing-fits)
@@ -46,8 +46,8 @@ mark-run-spec =
     Inv-loop
     μ-loop
     loop-holds
-    read-requires
-    slice-write-used
+    input-id-at-requires
+    mark-id-requires
     add-place
     add-i
     loop-less

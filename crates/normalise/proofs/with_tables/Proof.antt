@@ -11,7 +11,7 @@ slice-aggregate-mark : tie.Need-slice-aggregate-mark
 slice-aggregate-mark c = search needs
 
 mark-requires : tie.Need-mark-requires
-unfolding readings mostLevels
+unfolding readings
 mark-requires c κs = (readings-all, markable (c .before .before .before .before .before .before .before .before .before .pre .0) _ (c .before .before .before .before .before .before .before .before .before .pre .1))
 
 rank-requires : tie.Need-rank-requires
@@ -21,7 +21,7 @@ slice-aggregate-with-room : tie.Need-slice-aggregate-with-room
 slice-aggregate-with-room c = search needs
 
 with-room-requires : tie.Need-with-room-requires
-unfolding readings mostLevels
+unfolding readings
 with-room-requires c κs =
     let pre = c .before .before .before .before .before .before .before .before .before .before .before .before .before .before .before .before .before .before .before .before .before .before .before .before .before .pre in
     (readings-all, numbered (pre .0) (λ i. omega (arith, c .before .before .before .before .before .before .before .before .before .before .before .before .before .before .before .before .before .before .before .before .before .before .before .shared-slice-known2 .given i)) (c .before .before .before .before .before .before .before .before .before .before .before .before .before .before .before .mark .ensures) (pre .4) (pre .1) (c .before .before .before .before .before .before .before .before .before .rank .ensures) (search needs) (search needs), pre .0 .value-short)

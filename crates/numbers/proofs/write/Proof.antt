@@ -7,46 +7,19 @@ use Rattle.numbers.proofs.PutLaws.{write-one, write-more}
 use Rattle.numbers.proofs.write.Statement.{statement}
 use Rattle.numbers.proofs.write.Tie as tie
 
-cast-out : tie.Need-cast-out
-cast-out c = search needs
-
-slice-write-out : tie.Need-slice-write-out
-slice-write-out c = search needs
-
-same-length : tie.Need-same-length
-same-length c = search needs
-
 returns : tie.Need-returns
 returns c = write-one _ _ _ _ (c .if1 .taken) (omega arith)
 
-cast-out-2 : tie.Need-cast-out-2
-cast-out-2 c = search needs
-
-add-out : tie.Need-add-out
-add-out c = search needs
-
 slice-write-out-2 : tie.Need-slice-write-out-2
 slice-write-out-2 c = simp length-set (omega arith)
-
-same-length-2 : tie.Need-same-length-2
-same-length-2 c = search needs
 
 returns-2 : tie.Need-returns-2
 returns-2 c =
     write-more _ _ _ 1 _ _ (omega arith) refl (omega arith)
     (write-one _ _ 1 _ refl (simp length-set (omega arith)))
 
-cast-out-3 : tie.Need-cast-out-3
-cast-out-3 c = search needs
-
-add-out-2 : tie.Need-add-out-2
-add-out-2 c = search needs
-
 slice-write-out-3 : tie.Need-slice-write-out-3
 slice-write-out-3 c = simp length-set (omega arith)
-
-same-length-3 : tie.Need-same-length-3
-same-length-3 c = search needs
 
 returns-3 : tie.Need-returns-3
 returns-3 c =
@@ -54,17 +27,8 @@ returns-3 c =
     (write-more _ _ _ 1 _ _ refl (omega arith) (simp length-set (omega arith))
     (write-one _ _ 1 _ refl (simp length-set (omega arith))))
 
-cast-out-4 : tie.Need-cast-out-4
-cast-out-4 c = search needs
-
-add-out-3 : tie.Need-add-out-3
-add-out-3 c = search needs
-
 slice-write-out-4 : tie.Need-slice-write-out-4
 slice-write-out-4 c = simp length-set (omega arith)
-
-same-length-4 : tie.Need-same-length-4
-same-length-4 c = search needs
 
 returns-4 : tie.Need-returns-4
 returns-4 c =
@@ -76,23 +40,10 @@ returns-4 c =
 pub write-spec : {M : Type 1} → statement M
 write-spec =
     tie.close
-    (tie.spec
-    cast-out
-    slice-write-out
-    same-length
-    returns
-    cast-out-2
-    add-out
-    slice-write-out-2
-    same-length-2
-    returns-2
-    cast-out-3
-    add-out-2
-    slice-write-out-3
-    same-length-3
-    returns-3
-    cast-out-4
-    add-out-3
-    slice-write-out-4
-    same-length-4
-    returns-4)
+    (tie.spec (λ c. search needs) (λ c. search needs) (λ c. search needs) returns
+    (λ c. search needs) (λ c. search needs) slice-write-out-2
+    (λ c. search needs) returns-2
+    (λ c. search needs) (λ c. search needs) slice-write-out-3
+    (λ c. search needs) returns-3
+    (λ c. search needs) (λ c. search needs) slice-write-out-4
+    (λ c. search needs) returns-4)

@@ -1,5 +1,6 @@
 -- `collect`: the ids used so far are listed.
 use mathlib.Core.Logic.{⊎-elim}
+use mathlib.Core.Path.{_∙_}
 use Prim.Native.Nat.{_-_, _≤_}
 use borrow.Author.Needs.{needs}
 use Rattle.ranking.proofs.CollectLaws.{Collected, collect-start, collect-one, collect-none, collect-done}
@@ -15,17 +16,11 @@ abbrev μ-loop : tie.MeasureT-loop
 loop-holds : tie.Need-loop-holds Inv-loop μ-loop
 loop-holds c = (search needs, collect-start _ _)
 
-shared-slice-read-if1 : tie.Need-shared-slice-read-if1 Inv-loop μ-loop
-shared-slice-read-if1 c = search needs
+is-used-requires : tie.Need-is-used-requires Inv-loop μ-loop
+is-used-requires c κs = search needs
 
-cast-chosen : tie.Need-cast-chosen Inv-loop μ-loop
-cast-chosen c = search needs
-
-mul-chosen : tie.Need-mul-chosen Inv-loop μ-loop
-mul-chosen c = search needs
-
-slice-write-chosen : tie.Need-slice-write-chosen Inv-loop μ-loop
-slice-write-chosen c = search needs
+put-id-requires : tie.Need-put-id-requires Inv-loop μ-loop
+put-id-requires c κs = search needs
 
 add-n : tie.Need-add-n Inv-loop μ-loop
 add-n c = search needs
@@ -39,8 +34,9 @@ loop-less c = search needs
 loop-again : tie.Need-loop-again Inv-loop μ-loop
 loop-again c =
     let seen = c .before .before .before .loop .inv .1 in
+    let told = c .before .is-used .ensures in
     let test = c .before .before .loop-test .taken in
-    (search needs, ⊎-elim (λ w. collect-one seen (w .0 .taken) (search needs) (w .1) (w .2)) (λ w. collect-none seen (w .0 .left) (w .1) (w .2)) (c .if1 .came))
+    (search needs, ⊎-elim (λ w. collect-one seen _ told (w .0 .taken) (search needs) (w .5 ∙ w .2 .ensures) (w .6)) (λ w. collect-none seen _ told (w .0 .left) (w .1) (w .2)) (c .if1 .came))
 
 same-length : tie.Need-same-length Inv-loop μ-loop
 same-length c = search needs
@@ -55,10 +51,8 @@ collect-spec =
     Inv-loop
     μ-loop
     loop-holds
-    shared-slice-read-if1
-    cast-chosen
-    mul-chosen
-    slice-write-chosen
+    is-used-requires
+    put-id-requires
     add-n
     add-i
     loop-less

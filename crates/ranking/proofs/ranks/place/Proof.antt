@@ -15,19 +15,11 @@ abbrev μ-loop : tie.MeasureT-loop
 loop-holds : tie.Need-loop-holds Inv-loop μ-loop
 loop-holds c = place-start _ _
 
-entry-requires : tie.Need-entry-requires Inv-loop μ-loop
-entry-requires c κs = search needs
+id-at-requires : tie.Need-id-at-requires Inv-loop μ-loop
+id-at-requires c κs = search needs
 
-cast-ranks : tie.Need-cast-ranks Inv-loop μ-loop
-cast-ranks c = search needs
-
-mul-ranks : tie.Need-mul-ranks Inv-loop μ-loop
-mul-ranks c =
-    let inside = place-inside (c .before .before .loop .inv) (c .before .before .before .before .before .pre .0) (c .before .loop-test .taken) _ (c .entry .ensures) in
-    search needs
-
-slice-write-ranks : tie.Need-slice-write-ranks Inv-loop μ-loop
-slice-write-ranks c = search (needs, place-inside)
+set-normal-requires : tie.Need-set-normal-requires Inv-loop μ-loop
+set-normal-requires c κs = search (needs, place-inside)
 
 add-i : tie.Need-add-i Inv-loop μ-loop
 add-i c = search needs
@@ -51,10 +43,8 @@ place-spec =
     Inv-loop
     μ-loop
     loop-holds
-    entry-requires
-    cast-ranks
-    mul-ranks
-    slice-write-ranks
+    id-at-requires
+    set-normal-requires
     add-i
     loop-less
     loop-again

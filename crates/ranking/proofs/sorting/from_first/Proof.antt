@@ -11,18 +11,18 @@ returns c = search (needs, takes-ended)
 returns-2 : tie.Need-returns-2
 returns-2 c = search (needs, takes-all)
 
-entry-requires : tie.Need-entry-requires
-entry-requires c κs = search needs
+id-at-requires : tie.Need-id-at-requires
+id-at-requires c κs = search needs
 
-entry-requires-2 : tie.Need-entry-requires-2
-entry-requires-2 c κs = search needs
+id-at-requires-2 : tie.Need-id-at-requires-2
+id-at-requires-2 c κs = search needs
 
 comes-before-requires : tie.Need-comes-before-requires
 comes-before-requires c κs =
     let pre = c .before .before .before .before .before .before .before .pre in (
       pre .0,
-      entry-below _ _ _ _ (pre .2) (c .before .before .if2 .left) (c .before .entry .ensures),
-      entry-below _ _ _ _ (pre .1) (c .before .before .before .if1 .left) (c .entry2 .ensures),
+      entry-below _ _ _ _ (pre .2) (c .before .before .if2 .left) (c .before .id-at .ensures .0),
+      entry-below _ _ _ _ (pre .1) (c .before .before .before .if1 .left) (c .id-at2 .ensures .0),
     )
 
 returns-3 : tie.Need-returns-3
@@ -31,4 +31,4 @@ returns-3 c = search (needs, takes-lower)
 pub from-first-spec : {M : Type 1} → statement M
 from-first-spec =
     tie.close
-    (tie.spec returns returns-2 entry-requires entry-requires-2 comes-before-requires returns-3)
+    (tie.spec returns returns-2 id-at-requires id-at-requires-2 comes-before-requires returns-3)

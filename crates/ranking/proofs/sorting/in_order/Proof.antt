@@ -9,7 +9,7 @@ use Rattle.ranking.proofs.sorting.in_order.Statement.{statement}
 use Rattle.ranking.proofs.sorting.in_order.Tie as tie
 
 abbrev Inv-loop : tie.InvT-loop
-Inv-loop metadata names ids last₀ i₀ last i = Ordered (namesIn metadata) ids (names .count) last i
+Inv-loop metadata names ids last₀ i₀ last i = Ordered (namesIn metadata) ids (names .count) (last .0) i
 
 abbrev μ-loop : tie.MeasureT-loop
 μ-loop metadata names ids last₀ i₀ last i = length ids - i
@@ -20,14 +20,14 @@ returns c = sym (c .before .before .before .pre .2 (c .if1 .taken))
 returns-2 : tie.Need-returns-2 Inv-loop μ-loop
 returns-2 c = search (needs, ordered-none)
 
-entry-requires : tie.Need-entry-requires Inv-loop μ-loop
-entry-requires c κs = search needs
+id-at-requires : tie.Need-id-at-requires Inv-loop μ-loop
+id-at-requires c κs = search needs
 
 loop-holds : tie.Need-loop-holds Inv-loop μ-loop
 loop-holds c = search (needs, ordered-start)
 
-entry-requires-2 : tie.Need-entry-requires-2 Inv-loop μ-loop
-entry-requires-2 c κs = search needs
+id-at-requires-2 : tie.Need-id-at-requires-2 Inv-loop μ-loop
+id-at-requires-2 c κs = search needs
 
 comes-before-requires : tie.Need-comes-before-requires Inv-loop μ-loop
 comes-before-requires c κs = search (needs, ordered-below)
@@ -55,9 +55,9 @@ in-order-spec =
     μ-loop
     returns
     returns-2
-    entry-requires
+    id-at-requires
     loop-holds
-    entry-requires-2
+    id-at-requires-2
     comes-before-requires
     returns-3
     add-i

@@ -1,5 +1,4 @@
 -- `merge`: what is left of the two runs is to be merged.
-use mathlib.Core.Path.{refl}
 use Prim.Native.Nat.{_-_, _+_}
 use borrow.Author.Needs.{needs}
 use lib.ListN.{length}
@@ -23,20 +22,14 @@ add-loop c = search needs
 from-first-requires : tie.Need-from-first-requires Inv-loop μ-loop
 from-first-requires c κs = search needs
 
-mul-out : tie.Need-mul-out Inv-loop μ-loop
-mul-out c = search needs
+add-put-id : tie.Need-add-put-id Inv-loop μ-loop
+add-put-id c = search needs
 
-shared-slice-read-out : tie.Need-shared-slice-read-out Inv-loop μ-loop
-shared-slice-read-out c = search (needs, takes-there)
+id-at-requires : tie.Need-id-at-requires Inv-loop μ-loop
+id-at-requires c κs = search (needs, takes-there)
 
-add-out : tie.Need-add-out Inv-loop μ-loop
-add-out c = search needs
-
-mul-out-2 : tie.Need-mul-out-2 Inv-loop μ-loop
-mul-out-2 c = search needs
-
-slice-write-out : tie.Need-slice-write-out Inv-loop μ-loop
-slice-write-out c = search needs
+put-id-requires : tie.Need-put-id-requires Inv-loop μ-loop
+put-id-requires c κs = search needs
 
 add-i : tie.Need-add-i Inv-loop μ-loop
 add-i c = search needs
@@ -46,26 +39,24 @@ loop-less c = search needs
 
 loop-again : tie.Need-loop-again Inv-loop μ-loop
 loop-again c =
-    merge-first (c .before .before .before .before .loop .inv) _ (c .before .before .from-first .ensures) (c .before .if1 .taken)
-    (c .before .before .before .loop-test .taken) refl
+    let put = c .before .before in
+    let taken = put .before .before .before in
+    let turn = taken .before .before in
+    merge-first (turn .before .loop .inv) _ (taken .before .from-first .ensures) (taken .if1 .taken) (turn .loop-test .taken) _
+    (put .before .id-at .ensures .0) (put .put-id .ensures)
 
-mul-out-3 : tie.Need-mul-out-3 Inv-loop μ-loop
-mul-out-3 c = search needs
+add-put-id-2 : tie.Need-add-put-id-2 Inv-loop μ-loop
+add-put-id-2 c = search needs
 
-shared-slice-read-out-2 : tie.Need-shared-slice-read-out-2 Inv-loop μ-loop
-shared-slice-read-out-2 c =
-    let seen = c .before .before .before .before .loop .inv in
+id-at-requires-2 : tie.Need-id-at-requires-2 Inv-loop μ-loop
+id-at-requires-2 c κs =
+    let left = c .before in
+    let seen = left .before .before .before .loop .inv in
     let size = seen .size in
-    takes-other _ _ _ _ _ _ (c .before .before .from-first .ensures) (c .before .if1 .left) (seen .far-first) (search needs)
+    takes-other _ _ _ _ _ _ (left .before .from-first .ensures) (left .if1 .left) (seen .far-first) (search needs)
 
-add-out-2 : tie.Need-add-out-2 Inv-loop μ-loop
-add-out-2 c = search needs
-
-mul-out-4 : tie.Need-mul-out-4 Inv-loop μ-loop
-mul-out-4 c = search needs
-
-slice-write-out-2 : tie.Need-slice-write-out-2 Inv-loop μ-loop
-slice-write-out-2 c = search needs
+put-id-requires-2 : tie.Need-put-id-requires-2 Inv-loop μ-loop
+put-id-requires-2 c κs = search needs
 
 add-j : tie.Need-add-j Inv-loop μ-loop
 add-j c = search needs
@@ -75,8 +66,11 @@ loop-less-2 c = search needs
 
 loop-again-2 : tie.Need-loop-again-2 Inv-loop μ-loop
 loop-again-2 c =
-    merge-second (c .before .before .before .before .loop .inv) _ (c .before .before .from-first .ensures) (c .before .if1 .left)
-    (c .before .before .before .loop-test .taken) refl
+    let put = c .before .before in
+    let left = put .before .before .before in
+    let turn = left .before .before in
+    merge-second (turn .before .loop .inv) _ (left .before .from-first .ensures) (left .if1 .left) (turn .loop-test .taken) _
+    (put .before .id-at2 .ensures .0) (put .put-id2 .ensures)
 
 same-length : tie.Need-same-length Inv-loop μ-loop
 same-length c = search needs
@@ -93,19 +87,15 @@ merge-spec =
     loop-holds
     add-loop
     from-first-requires
-    mul-out
-    shared-slice-read-out
-    add-out
-    mul-out-2
-    slice-write-out
+    add-put-id
+    id-at-requires
+    put-id-requires
     add-i
     loop-less
     loop-again
-    mul-out-3
-    shared-slice-read-out-2
-    add-out-2
-    mul-out-4
-    slice-write-out-2
+    add-put-id-2
+    id-at-requires-2
+    put-id-requires-2
     add-j
     loop-less-2
     loop-again-2

@@ -14,7 +14,7 @@ cast-result : tie.Need-cast-result
 cast-result c = omega (arith, c .shared-slice-known .given (c .before .args .place))
 
 returns : tie.Need-returns
-returns c = search needs
+returns c = search (needs, c .shared-slice-known .given (c .before .args .place))
 
 pub entry-spec : {M : Type 1} → statement M
 entry-spec = tie.close (tie.spec mul-result shared-slice-read-result cast-result returns)

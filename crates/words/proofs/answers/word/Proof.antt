@@ -1,7 +1,6 @@
 -- `word`: the parts lie one above another, so that their sum fits.
 use native.Mathlib.Omega.{arith}
 use borrow.Author.Needs.{needs}
-use Rattle.words.specs.Boundary.{word}
 use Rattle.words.proofs.BoundaryLaws.{flag, flag-small}
 use Rattle.words.proofs.answers.word.Statement.{statement}
 use Rattle.words.proofs.answers.word.Tie as tie
@@ -28,7 +27,6 @@ add-result-2 : tie.Need-add-result-2
 add-result-2 c = let small = flag-small (c .args .present) in omega arith
 
 returns : tie.Need-returns
-unfolding word
 returns c = rw (flag (c .args .present))
 
 pub word-spec : {M : Type 1} → statement M

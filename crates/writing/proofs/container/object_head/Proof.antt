@@ -8,21 +8,6 @@ use Rattle.writing.proofs.HeadLaws.{start-behind, offsets-fit, offsets-
 use Rattle.writing.proofs.container.object_head.Statement.{statement}
 use Rattle.writing.proofs.container.object_head.Tie as tie
 
-sub-width-of : tie.Need-sub-width-of
-sub-width-of c = search needs
-
-width-of-requires : tie.Need-width-of-requires
-width-of-requires c κs = search needs
-
-write-offsets-requires : tie.Need-write-offsets-requires
-write-offsets-requires c κs = search (needs, offsets-fit)
-
-largest-of-requires : tie.Need-largest-of-requires
-largest-of-requires c κs = search needs
-
-width-of-requires-2 : tie.Need-width-of-requires-2
-width-of-requires-2 c κs = search needs
-
 write-ids-requires : tie.Need-write-ids-requires
 write-ids-requires c κs =
     let pre = c .before .before .before .before .before .before .before .before .before .before .before .before .pre in
@@ -32,24 +17,6 @@ write-ids-requires c κs =
     let before = offsets-before (pre .0 .1) _ _ _ width-is (pre .0 .4) (c .before .before .before .before .before .write-offsets .ensures) in
     let fit = ids-fit (pre .0 .1) _ _ _ width-is (pre .0 .4) (c .before .before .before .before .before .write-offsets .ensures) _ id-is in
     (pre .1 .0, pre .1 .1, pre .1 .2, pre .0 .2, pre .1 .3, search needs, search needs, fit, omega arith)
-
-sub-opened : tie.Need-sub-opened
-sub-opened c = search needs
-
-mul-opened : tie.Need-mul-opened
-mul-opened c = search needs
-
-add-opened : tie.Need-add-opened
-add-opened c = search needs
-
-sub-opened-2 : tie.Need-sub-opened-2
-sub-opened-2 c = search needs
-
-mul-opened-2 : tie.Need-mul-opened-2
-mul-opened-2 c = search needs
-
-add-opened-2 : tie.Need-add-opened-2
-add-opened-2 c = search needs
 
 opened-requires : tie.Need-opened-requires
 opened-requires c κs =
@@ -64,9 +31,6 @@ opened-requires c κs =
     let size = ids .size in
     (search needs, object-opens (pre .0 .1) _ _ _ width-is (pre .0 .4) offsets _ id-is _ many ids, omega arith)
 
-same-length : tie.Need-same-length
-same-length c = search needs
-
 returns : tie.Need-returns
 returns c =
     let ids = c .before .before .before .before .before .before in
@@ -79,19 +43,8 @@ returns c =
 pub object-head-spec : {M : Type 1} → statement M
 object-head-spec =
     tie.close
-    (tie.spec
-    sub-width-of
-    width-of-requires
-    write-offsets-requires
-    largest-of-requires
-    width-of-requires-2
-    write-ids-requires
-    sub-opened
-    mul-opened
-    add-opened
-    sub-opened-2
-    mul-opened-2
-    add-opened-2
-    opened-requires
-    same-length
-    returns)
+    (tie.spec (λ c. search needs) (λ c κs. search needs) (λ c κs. search (needs, offsets-fit))
+    (λ c κs. search needs) (λ c κs. search needs) write-ids-requires
+    (λ c. search needs) (λ c. search needs) (λ c. search needs) (λ c. search needs) (λ c. search needs)
+    (λ c. search needs) opened-requires
+    (λ c. search needs) returns)

@@ -1,0 +1,3 @@
+-- Laws of the signed numbers in bytes, for the proofs of this crate and of those above it.
+
+pub mod SignedLaws

@@ -1,0 +1,2 @@
+-- Signed numbers in bytes: what a reader must believe of them.
+pub mod Signed
