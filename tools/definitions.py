@@ -20,19 +20,13 @@ PER_FILE = 125
 
 HEAD = """-- Made by tools/definitions.py: cases computed by the definitions.
 use mathlib.Core.Path.{_≡_, refl}
-use mathlib.Core.Bool.{true, false}
 use mathlib.Core.List.{List, [], _∷_}
-use Prim.Native.Nat.{ℕ}
-use lib.IntN.{pos, negsuc}
-use lib.Ieee.{ofBits, binary32, binary64}
+use Prim.Native.Nat.{ℕ, zero, suc}
 use lib.ListN.{length}
 use Rattle.numbers.specs.Little.{number, numberBytes}
-use Rattle.paper.specs.Answers.{checkedNumber, foundValues, documentValues, rowValues, cellNumber, boxNumber}
+use Rattle.paper.specs.Answers.{Carried, numberOf, presentOf, valueOf, checkedCarries, foundCarries, documentCarries, rowCarries, cellCarries, boxCarries}
 use Rattle.paper.specs.Operations.{checkAnswer, findAnswer, normaliseOutcome, shredOutcome, rebuildOutcome, documentAnswer, metadataWritten, valueWritten, rowAnswer, rowWritten, cellAnswer, boxAnswer}
 use Rattle.paper.specs.Running.{running}
-use Rattle.paper.specs.declared.CellAnswer.{CellAnswer}
-use Rattle.paper.specs.declared.Cell.{Cell}
-use Rattle.paper.specs.declared.BoxAnswer.{BoxAnswer}
 
 """
 
@@ -51,66 +45,63 @@ def held(text):
     return f"{len(data)} ∷ {int.from_bytes(data, 'little')}"
 
 
-def numbers(words):
-    return " ∷ ".join(words) + " ∷ []"
+def carries(number, present, values):
+    """The number, whether the answer is present, and its values."""
+    return " ∷ ".join(str(word) for word in [number, present, *values]) + " ∷ []"
 
 
-def cell_answer(right):
-    number, kind, values = right[0], right[1], [int(v) for v in right[2:]]
-    if number != "0":
-        return None
-    def double(bits):
-        nan = bits >> 52 & 0x7FF == 0x7FF and bits & (1 << 52) - 1
-        return f"Cell.DoubleNan {bits}" if nan else f"Cell.Double (ofBits binary64 {bits})"
-    def single(bits):
-        nan = bits >> 23 & 0xFF == 0xFF and bits & (1 << 23) - 1
-        return f"Cell.FloatNan {bits}" if nan else f"Cell.Float (ofBits binary32 {bits})"
-    made = {
-        "bool": lambda: f"Cell.Boolean {'true' if values[0] else 'false'}",
-        "int": lambda: f"Cell.Integer ({'pos %d' % values[0] if values[0] >= 0 else 'negsuc %d' % (-values[0] - 1)})",
-        "float": lambda: single(values[0]),
-        "double": lambda: double(values[0]),
-        "len": lambda: f"Cell.Length {values[0]}",
-        "uuid": lambda: f"Cell.Uuid {values[0]} {values[1]}",
-    }[kind]()
-    return f"CellAnswer.Read ({made})"
+def there(number):
+    """Number 0 is present, in the operations that have no absent."""
+    return 1 if number == "0" else 0
+
+
+KINDS = ["none", "bool", "int", "float", "double", "len", "uuid"]
+
+
+def cell_values(kind, words):
+    """A cell's kind and its two 64-bit words; the second is 0 unless the case names one."""
+    held = [int(word) % 2**64 for word in words]
+    return [KINDS.index(kind), *held, 0][:3]
 
 
 def statement(op, left, right):
     """The two sides of the equation that a case states."""
     if op == "check":
-        return f"checkedNumber (checkAnswer {list_of(left[0])} {list_of(left[1])})", right[0]
+        answer = f"checkAnswer {list_of(left[0])} {list_of(left[1])}"
+        return f"said 0 (checkedCarries ({answer}))", carries(right[0], there(right[0]), [])
     if op == "find":
-        return f"foundValues (findAnswer {list_of(left[0])} {list_of(left[1])} {list_of(left[2])})", numbers(right)
+        answer = f"findAnswer {list_of(left[0])} {list_of(left[1])} {list_of(left[2])}"
+        return f"said 2 (foundCarries ({answer}))", carries(right[0], right[1], right[2:])
     if op in ("normalise", "rebuild"):
         outcome = f"({op}Outcome {list_of(left[0])} {list_of(left[1])})"
         rooms = f"{left[2]} {left[3]}"
         made = [f"({what}Written {outcome} {rooms})" for what in ("metadata", "value")]
         return (
-            f"joint (documentValues (documentAnswer {outcome} {rooms})) {made[0]} {made[1]}",
-            f"{' ∷ '.join(right[:3])} ∷ {held(right[3])} ∷ {held(right[4])} ∷ []",
+            f"joint (said 2 (documentCarries (documentAnswer {outcome} {rooms}))) {made[0]} {made[1]}",
+            carries(right[0], there(right[0]), [*right[1:3], held(right[3]), held(right[4])]),
         )
     if op == "shred":
         outcome = f"(shredOutcome {list_of(left[0])} {list_of(left[1])} {list_of(left[2])})"
         return (
-            f"joint (rowValues (rowAnswer {outcome} {left[3]})) (rowWritten {outcome} {left[3]}) []",
-            f"{' ∷ '.join(right[:2])} ∷ {held(right[2])} ∷ 0 ∷ 0 ∷ []",
+            f"joint (said 1 (rowCarries (rowAnswer {outcome} {left[3]}))) (rowWritten {outcome} {left[3]}) []",
+            carries(right[0], there(right[0]), [right[1], held(right[2]), held("-")]),
         )
     if op == "cell":
         answer = f"cellAnswer {left[0]} {list_of(left[1])}"
-        good = cell_answer(right)
-        return (answer, good) if good else (f"cellNumber ({answer})", right[0])
+        return f"said 3 (cellCarries ({answer}))", carries(right[0], there(right[0]), cell_values(right[1], right[2:]))
     answer = f"boxAnswer {list_of(left[0])} {list_of(left[1])}"
-    if right[0] != "0":
-        return f"boxNumber ({answer})", right[0]
-    if right[1] == "0":
-        return answer, "BoxAnswer.Absent"
-    sides = zip(("east", "north", "south", "west"), right[2:])
-    record = "; ".join(f"{name} = ofBits binary64 {bits}" for name, bits in sides)
-    return answer, f"BoxAnswer.Read (record {{ {record} }})"
+    return f"said 4 (boxCarries ({answer}))", carries(right[0], right[1], right[2:])
 
 
-JOINT = """-- Values, and what was written, by its count and the number it holds.
+SHARED = """-- An answer's number, whether it is present, and so many of its values.
+values : (count place : ℕ) → Carried → List ℕ
+values zero place answer = []
+values (suc count) place answer = valueOf answer place ∷ values count (suc place) answer
+
+said : (count : ℕ) → Carried → List ℕ
+said count answer = numberOf answer ∷ presentOf answer ∷ values count 0 answer
+
+-- These, and what was written, by its count and the number it holds.
 joint : List ℕ → List ℕ → List ℕ → List ℕ
 joint [] first second = length first ∷ number first ∷ length second ∷ number second ∷ []
 joint (value ∷ more) first second = value ∷ joint more first second
@@ -133,12 +124,12 @@ def write_crate(cases):
         for k in range(0, len(mine), PER_FILE):
             module = f"{op.capitalize()}{k // PER_FILE}"
             modules.append(module)
-            text = HEAD + JOINT
+            text = HEAD + SHARED
             line = text.count("\n") + 1
             for number, (_, left, right, source) in enumerate(mine[k : k + PER_FILE]):
                 said, expected = statement(op, left, right)
                 name = f"case-{source}"
-                text += f"{name} : _≡_ ({said}) ({expected})\nunfolding running joint\n{name} = refl\n\n"
+                text += f"{name} : _≡_ ({said}) ({expected})\nunfolding running values said joint\n{name} = refl\n\n"
                 places[(module, line)] = (op, source)
                 line += 4
             with open(os.path.join(specs, module + ".antt"), "w") as f:

@@ -6,6 +6,7 @@ use mathlib.Core.Path.{_≡_}
 use Prim.Native.Nat.{ℕ, _≤_}
 use lib.Ieee.{Float, isNan, le}
 use lib.ListN.{length}
+use Rattle.paper.specs.Bounds.{mostWalked}
 use Rattle.paper.specs.FirstBytes.{readingOf}
 use Rattle.paper.specs.Limits.{mostLevels}
 use Rattle.paper.specs.Metadata.{namesIn}
@@ -31,7 +32,7 @@ boxOfSides e n s w = given (le w e && le s n) (some (record { east = e; north = 
 pub record Lawful (metadata : List ℕ) (names : Names) (value : List ℕ) : Type 0 where
   pub opened : Opened metadata names
   pub means : isThere (meaningOf mostLevels (namesIn metadata) value) ≡ true
-  pub small : length value ≤ 65536
+  pub small : length value ≤ mostWalked
 
 -- Its value is an object, whose count, ids and offsets take so many bytes each.
 pub record LawfulObject (metadata : List ℕ) (names : Names) (value : List ℕ) (counted id width : ℕ) : Type 0 where

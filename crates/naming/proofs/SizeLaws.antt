@@ -8,6 +8,7 @@ use lib.ListN.{length, set}
 use Rattle.dictionary.specs.declared.Names.{Names}
 use Rattle.naming.specs.Chosen.{chosenNames, Chosen}
 use Rattle.numbers.specs.Little.{numberBytes, putAt, smallestWidth}
+use Rattle.paper.specs.Bounds.{mostNames}
 use Rattle.paper.specs.Metadata.{Dictionary}
 use Rattle.paper.specs.Normal.{offsetsFrom, numbersBytes, metadataWidth, metadataBytes}
 use Rattle.paper.specs.Words.{joined}
@@ -37,7 +38,7 @@ offsets-size normal count width counted =
     numbers-bytes-length width (offsetsFrom 0 normal) ∙ ap (λ (n : ℕ). n * width) size
 
 -- They are few enough for sums to fit.
-pub size-fits : (count width : ℕ) → count ≤ 16384 → width ≤ 4 → (count + 1) * width ≤ 65540
+pub size-fits : (count width : ℕ) → count ≤ mostNames → width ≤ 4 → (count + 1) * width ≤ 65540
 size-fits count width few most =
     let next : count + 1 ≤ 16385 = omega arith in
     let all : (count + 1) * width ≤ 16385 * 4 = mul-le-mul next most in

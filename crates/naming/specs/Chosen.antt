@@ -6,6 +6,8 @@ use Prim.Native.Nat.{ℕ, _≤_}
 use lib.ListN.{length, take}
 use Rattle.dictionary.specs.Judging.{Opened}
 use Rattle.dictionary.specs.declared.Names.{Names}
+use Rattle.paper.specs.Bounds.{mostNames}
+use Rattle.paper.specs.Limits.{mostMetadata}
 use Rattle.paper.specs.Metadata.{Dictionary, namesIn}
 use Rattle.paper.specs.Values.{namesAt}
 use Rattle.paper.specs.Words.{allBelow, joined}
@@ -17,7 +19,7 @@ chosenNames metadata chosen count = namesAt (namesIn metadata) (take count chose
 pub record Chosen (metadata : List ℕ) (names : Names) (chosen : List ℕ) (count : ℕ) : Type 0 where
   pub opened : Opened metadata names
   pub listed : count ≤ length chosen
-  pub few : count ≤ 16384
+  pub few : count ≤ mostNames
   pub known : allBelow (names .count) (take count chosen) ≡ true
-  pub small : length metadata ≤ 16384
+  pub small : length metadata ≤ mostMetadata
   pub short : length (joined (chosenNames metadata chosen count)) ≤ length metadata

@@ -9,6 +9,7 @@ use lib.Dec.{leb}
 use lib.ListN.{length}
 use Rattle.normalise.specs.Answered.{Answered}
 use Rattle.numbers.specs.Little.{putAt}
+use Rattle.paper.specs.Bounds.{mostNames}
 use Rattle.paper.specs.Limits.{mostValue}
 use Rattle.paper.specs.Meaning.{Doc}
 use Rattle.paper.specs.Metadata.{Dictionary}
@@ -25,18 +26,18 @@ kept : (l : List ℕ) (new : List ℕ) → new ≡ [] → l ≡ putAt l 0 new
 kept l new e = sym (ap (putAt l 0) e ∙ put-none l 0)
 
 module _ (d : Doc) (value : List ℕ) (is : value ≡ normalForm d .value) (first second : List ℕ) where
-  large : 16384 < length value → written d ≡ refused TooLarge
+  large : mostValue < length value → written d ≡ refused TooLarge
   unfolding written writable require
   large h =
-      let long : 16384 < length (normalForm d .value) = rw (← is) h in
-      rw (lt-leb (length (normalForm d .value)) 16384 long)
+      let long : mostValue < length (normalForm d .value) = rw (← is) h in
+      rw (lt-leb (length (normalForm d .value)) mostValue long)
 
-  pub answer-large : 16384 < length value → Answered (written d) first first second second (Refused TooLarge)
+  pub answer-large : mostValue < length value → Answered (written d) first first second second (Refused TooLarge)
   unfolding documentAnswer metadataWritten valueWritten
   answer-large h = rw (large h) (record { answer-is = refl; metadata-is = kept first [] refl; value-is = kept second [] refl })
 
   -- the names are those used, and the size is that of their metadata
-  module _ (fits : length value ≤ 16384) (names : Dictionary) (used : names ≡ namesUsed d) (size : ℕ) (told : size ≡ length (metadataBytes names)) where
+  module _ (fits : length value ≤ mostValue) (names : Dictionary) (used : names ≡ namesUsed d) (size : ℕ) (told : size ≡ length (metadataBytes names)) where
     metadata-is-normal : metadataBytes names ≡ normalForm d .metadata
     unfolding normalForm
     metadata-is-normal = ap metadataBytes used
@@ -47,8 +48,8 @@ module _ (d : Doc) (value : List ℕ) (is : value ≡ normalForm d .value) (firs
     fitting : written d ≡ reached (normalForm d)
     unfolding written writable require
     fitting =
-        let short : length (normalForm d .value) ≤ 16384 = rw (← is) fits in
-        rw (le-leb (length (normalForm d .value)) 16384 short)
+        let short : length (normalForm d .value) ≤ mostValue = rw (← is) fits in
+        rw (le-leb (length (normalForm d .value)) mostValue short)
 
     no-room : documentRoom (normalForm d) (length first) (length second) ≡ false
         → Answered (written d) first first second second (Short size (length value))

@@ -14,6 +14,7 @@ use Rattle.marking.specs.Ids.{idsIn, markIds, holds}
 use Rattle.marking.specs.Marking.{Markable}
 use Rattle.naming.specs.Chosen.{chosenNames, Chosen}
 use Rattle.normalise.specs.Answered.{Lent, Numbered, Answered}
+use Rattle.paper.specs.Bounds.{mostNames, mostWalked}
 use Rattle.paper.specs.Limits.{mostLevels}
 use Rattle.paper.specs.Meaning.{Doc}
 use Rattle.paper.specs.Metadata.{Dictionary, dictionaryOf, namesIn, offsetSize}
@@ -39,7 +40,7 @@ use Rattle.containers.proofs.WalkLaws.{below-more}
 
 -- ---- a numbered document is ready to be written
 
-few-names : {m : List ℕ} {names : Names} {v ranks chosen : List ℕ} {count : ℕ} (n : Numbered m names v ranks chosen count) → length (namesUsed (n .d)) ≤ 16384
+few-names : {m : List ℕ} {names : Names} {v ranks chosen : List ℕ} {count : ℕ} (n : Numbered m names v ranks chosen count) → length (namesUsed (n .d)) ≤ mostNames
 unfolding namesAt
 few-names {m} {names} {v} {ranks} {chosen} {count} n =
     let same : length (chosenNames m chosen count) ≡ length (namesUsed (n .d)) = ap length (n .used) in
@@ -49,7 +50,7 @@ few-names {m} {names} {v} {ranks} {chosen} {count} n =
     omega arith
 
 pub ready : {m : List ℕ} {names : Names} {v ranks chosen : List ℕ} {count : ℕ} → Numbered m names v ranks chosen count
-    → (room : ℕ) → 2 * length v ≤ room → room ≤ 65536 → Ready mostLevels v ranks room room
+    → (room : ℕ) → 2 * length v ≤ room → room ≤ mostWalked → Ready mostLevels v ranks room room
 ready {m} {names} {v} {ranks} {chosen} {count} n room twice most =
     let short = n .value-short in
     let grows : length (valueBytes (namesUsed (n .d)) (n .d)) ≤ 2 * length v =
@@ -128,7 +129,7 @@ module _ {m : List ℕ} {names : Names} {v : List ℕ} (lent : Lent m names v) w
       let is = count-is in
       record { names = namesIn m; meant = lent .meant; room = omega arith; small = omega arith }
 
-  pub count-few : names .count ≤ 16384
+  pub count-few : names .count ≤ mostNames
   unfolding offsetSize
   count-few =
       let all = read-length m (namesIn m) read in

@@ -11,7 +11,7 @@ use Rattle.dictionary.specs.declared.Names.{Names}
 use Rattle.marking.specs.Ids.{idsIn}
 use Rattle.naming.specs.Chosen.{chosenNames, Chosen}
 use Rattle.numbers.specs.Little.{putAt}
-use Rattle.paper.specs.Limits.{mostLevels}
+use Rattle.paper.specs.Limits.{mostLevels, mostMetadata, mostValue}
 use Rattle.paper.specs.Meaning.{Doc}
 use Rattle.paper.specs.Metadata.{namesIn}
 use Rattle.paper.specs.Normal.{Document, namesUsed}
@@ -31,8 +31,8 @@ pub record Answered (outcome : Outcome Document) (metadata₀ metadata value₀ 
 pub record Lent (metadata : List ℕ) (names : Names) (value : List ℕ) : Type 0 where
   pub opened : Opened metadata names
   pub meant : isThere (meaningOf mostLevels (namesIn metadata) value) ≡ true
-  pub metadata-short : length metadata ≤ 16384
-  pub value-short : length value ≤ 16384
+  pub metadata-short : length metadata ≤ mostMetadata
+  pub value-short : length value ≤ mostValue
 
 -- Its used names numbered: the chosen ids name exactly the names used, rising, and each used id's rank is its name's place
 -- among them.
@@ -44,7 +44,7 @@ pub record Numbered (metadata : List ℕ) (names : Names) (value ranks chosen : 
   pub ranked : allBelow (length ranks) (idsIn mostLevels value) ≡ true
   pub right : Right (namesIn metadata) (namesUsed d) ranks (idsIn mostLevels value)
   pub bytes : (i : ℕ) → getD value i 0 < 256
-  pub value-short : length value ≤ 16384
+  pub value-short : length value ≤ mostValue
 
 -- A string, type 16, or binary, type 15, that has its length in front: long enough that normal form writes it as it stands.
 unfoldable pub standing : List ℕ → Bool

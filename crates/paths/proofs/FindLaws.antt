@@ -13,6 +13,7 @@ use mir.Val.{Fits}
 use Rattle.dictionary.specs.Judging.{Opened}
 use Rattle.dictionary.specs.declared.Names.{Names}
 use Rattle.numbers.specs.Little.{numberAt}
+use Rattle.paper.specs.Bounds.{mostWalked}
 use Rattle.paper.specs.Limits.{mostLevels}
 use Rattle.paper.specs.Metadata.{Dictionary}
 use Rattle.paper.specs.Operations.{foundBy}
@@ -72,14 +73,14 @@ both-there (some step) (some steps) e = (refl, refl)
 pub record FindSeen (names : Dictionary) (value path : List ℕ) (start end at : ℕ) : Type 0 where
   pub order : start ≤ end
   pub end-in : end ≤ length value
-  pub few : length value ≤ 65536
+  pub few : length value ≤ mostWalked
   pub within : at ≤ length path
   pub lawful : LawfulIn names (here value start end)
   pub good : isThere (pathOf (drop at path)) ≡ true
   pub whole-is : (andThen (pathOf path) λ steps. findFrom names steps 0 value)
       ≡ (andThen (pathOf (drop at path)) λ steps. findFrom names steps start (here value start end))
 
-pub find-start : {names : Dictionary} {value path : List ℕ} → isThere (meaningOf mostLevels names value) ≡ true → length value ≤ 65536 → isThere (pathOf path) ≡ true
+pub find-start : {names : Dictionary} {value path : List ℕ} → isThere (meaningOf mostLevels names value) ≡ true → length value ≤ mostWalked → isThere (pathOf path) ≡ true
     → FindSeen names value path 0 (length value) 0
 find-start {names} {value} {path} meant small good =
     let all : here value 0 (length value) ≡ value = take-all (length value - 0) value (omega arith) in

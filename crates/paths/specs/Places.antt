@@ -5,6 +5,7 @@ use mathlib.Core.Option.{Option, none, some}
 use mathlib.Core.Path.{_≡_}
 use Prim.Native.Nat.{ℕ, suc, _≤_}
 use lib.ListN.{length}
+use Rattle.paper.specs.Bounds.{mostWalked}
 use Rattle.paper.specs.Words.{same, isThere}
 use Rattle.paper.specs.Metadata.{Dictionary}
 use Rattle.paper.specs.Values.{Child, meaningOf}
@@ -24,4 +25,4 @@ positionIn name (first ∷ more) = cond (same first name) 0 (suc (positionIn nam
 pub record LawfulIn (names : Dictionary) (s : List ℕ) : Type 0 where
   pub levels : ℕ
   pub meant : isThere (meaningOf levels names s) ≡ true
-  pub small : length s ≤ 65536
+  pub small : length s ≤ mostWalked

@@ -5,6 +5,7 @@ ghost use mathlib.Core.List.{List};
 ghost use mathlib.Core.Option.{some};
 ghost use Prim.Native.Nat.{_≤_};
 ghost use lib.ListN.{length};
+ghost use Rattle.paper.specs.Bounds.{mostWalked};
 ghost use Rattle.paper.specs.Words.{at, isThere, andThen};
 ghost use Rattle.paper.specs.Limits.{mostLevels};
 ghost use Rattle.paper.specs.Refusals.{reached};
@@ -120,7 +121,7 @@ fn step_into(metadata: &[u8], names: Names, s: &[u8], tag: u8, body: &[u8]) -> P
 
 // Where a path leads from a value, step by step.
 pub fn find(metadata: &[u8], names: Names, value: &[u8], path: &[u8]) -> Found
-    requires { ⌜ Opened (now metadata) names × (isThere (meaningOf mostLevels (namesIn (now metadata)) (now value)) ≡ true) × (length (now value) ≤ 65536) × (isThere (pathOf (now path)) ≡ true) ⌝ }
+    requires { ⌜ Opened (now metadata) names × (isThere (meaningOf mostLevels (namesIn (now metadata)) (now value)) ≡ true) × (length (now value) ≤ mostWalked) × (isThere (pathOf (now path)) ≡ true) ⌝ }
     ensures { λ r. ⌜ ((steps : List Step) → pathOf (now (path .entry)) ≡ some steps → r ≡ foundBy (reached (findFrom (namesIn (now (metadata .entry))) steps 0 (now (value .entry))))) ⌝ }
 {
     let mut start = 0;

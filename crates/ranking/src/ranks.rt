@@ -3,6 +3,7 @@ ghost use mathlib.Core.Bool.{true};
 ghost use mathlib.Core.Path.{_≡_};
 ghost use Prim.Native.Nat.{_≤_};
 ghost use lib.ListN.{length};
+ghost use Rattle.paper.specs.Bounds.{mostNames};
 ghost use Rattle.paper.specs.Metadata.{Dictionary, namesIn, rising};
 ghost use Rattle.paper.specs.Values.{namesAt};
 ghost use Rattle.paper.specs.Words.{allBelow};
@@ -16,12 +17,12 @@ use crate::tables::set_normal;
 use dictionary::InputId;
 use dictionary::Names;
 use dictionary::NormalId;
-use dictionary::comes_before;
+use dictionary::name_before;
 use marking::is_used;
 
 // Lists the used ids below a count, rising, and answers how many they are.
 fn collect(used: &[u8], count: usize, chosen: &mut [u16]) -> usize
-    requires { ⌜ (count ≤ length (now used)) × (count ≤ length (now chosen)) × (count ≤ 16384) ⌝ }
+    requires { ⌜ (count ≤ length (now used)) × (count ≤ length (now chosen)) × (count ≤ mostNames) ⌝ }
     ensures { λ r. ⌜ Listed (usedIds count (now (used .entry))) (now (chosen .exit)) r ⌝ }
 {
     let mut n = 0;
@@ -39,7 +40,7 @@ fn collect(used: &[u8], count: usize, chosen: &mut [u16]) -> usize
 
 // Gives each of some ids, whose names rise, its place.
 fn place(ids: &[u16], ranks: &mut [u16])
-    requires { ⌜ (allBelow (length (now ranks)) (now ids) ≡ true) × (length (now ids) ≤ 16384) ⌝ }
+    requires { ⌜ (allBelow (length (now ranks)) (now ids) ≡ true) × (length (now ids) ≤ mostNames) ⌝ }
     ensures { λ _. ⌜ ((names : Dictionary) → rising (namesAt names (now (ids .entry))) ≡ true → RanksOf names (now (ids .entry)) (now (ids .entry)) (now (ranks .exit))) ⌝ }
 {
     let mut i = 0;
@@ -52,7 +53,7 @@ fn place(ids: &[u16], ranks: &mut [u16])
 // Of ids whose names never fall keeps the first of each name, and gives each id its name's place among those kept. Answers
 // how many are kept.
 fn fold(metadata: &[u8], names: Names, ids: &mut [u16], ranks: &mut [u16]) -> usize
-    requires { ⌜ Opened (now metadata) names × (allBelow (names .count) (now ids) ≡ true) × (neverFalls (namesAt (namesIn (now metadata)) (now ids)) ≡ true) × (names .count ≤ length (now ranks)) × (length (now ids) ≤ 16384) ⌝ }
+    requires { ⌜ Opened (now metadata) names × (allBelow (names .count) (now ids) ≡ true) × (neverFalls (namesAt (namesIn (now metadata)) (now ids)) ≡ true) × (names .count ≤ length (now ranks)) × (length (now ids) ≤ mostNames) ⌝ }
     ensures { λ r. ⌜ Folded (namesIn (now (metadata .entry))) (now (ids .entry)) (now (ids .exit)) (now (ranks .exit)) r ⌝ }
 {
     if ids.len() == 0 {
@@ -64,7 +65,7 @@ fn fold(metadata: &[u8], names: Names, ids: &mut [u16], ranks: &mut [u16]) -> us
     let mut i = 1;
     while i < ids.len() {
         let id = id_at(ids, i);
-        if comes_before(metadata, names, last, id) {
+        if name_before(metadata, names, last, id) {
             put_id(ids, kept, id);
             kept += 1;
         }
@@ -79,7 +80,7 @@ fn fold(metadata: &[u8], names: Names, ids: &mut [u16], ranks: &mut [u16]) -> us
 // Of ids in any order keeps one for each name, in the order of the names, and gives each id its name's place among those
 // kept. Answers how many are kept.
 fn sort_and_fold(metadata: &[u8], names: Names, ids: &mut [u16], ranks: &mut [u16]) -> usize
-    requires { ⌜ Opened (now metadata) names × (allBelow (names .count) (now ids) ≡ true) × (names .count ≤ length (now ranks)) × (length (now ids) ≤ 16384) ⌝ }
+    requires { ⌜ Opened (now metadata) names × (allBelow (names .count) (now ids) ≡ true) × (names .count ≤ length (now ranks)) × (length (now ids) ≤ mostNames) ⌝ }
     ensures { λ r. ⌜ Folded (namesIn (now (metadata .entry))) (now (ids .entry)) (now (ids .exit)) (now (ranks .exit)) r ⌝ }
 {
     sort(metadata, names, ids);
@@ -95,7 +96,7 @@ pub fn rank(
     ranks: &mut [u16],
     chosen: &mut [u16],
 ) -> usize
-    requires { ⌜ Opened (now metadata) names × (names .count ≤ length (now used)) × (names .count ≤ length (now ranks)) × (names .count ≤ length (now chosen)) × (names .count ≤ 16384) ⌝ }
+    requires { ⌜ Opened (now metadata) names × (names .count ≤ length (now used)) × (names .count ≤ length (now ranks)) × (names .count ≤ length (now chosen)) × (names .count ≤ mostNames) ⌝ }
     ensures { λ r. ⌜ Ranked (namesIn (now (metadata .entry))) (now (used .entry)) (now (ranks .exit)) (now (chosen .exit)) r ⌝ }
 {
     let count = names.count;

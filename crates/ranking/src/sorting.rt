@@ -4,6 +4,7 @@ ghost use mathlib.Core.List.{_++_};
 ghost use mathlib.Core.Path.{_≡_};
 ghost use Prim.Native.Nat.{_+_, _≤_};
 ghost use lib.ListN.{length, take, drop};
+ghost use Rattle.paper.specs.Bounds.{mostNames};
 ghost use Rattle.paper.specs.Metadata.{namesIn, rising};
 ghost use Rattle.paper.specs.Values.{namesAt};
 ghost use Rattle.paper.specs.Words.{allBelow};
@@ -13,7 +14,7 @@ ghost use Rattle.ranking.specs.Ranks.{Sorted};
 use crate::tables::id_at;
 use crate::tables::put_id;
 use dictionary::Names;
-use dictionary::comes_before;
+use dictionary::name_before;
 
 // The names of ids rise. A sorted dictionary says so of rising ids by its flag.
 pub fn in_order(metadata: &[u8], names: Names, ids: &[u16]) -> bool
@@ -30,7 +31,7 @@ pub fn in_order(metadata: &[u8], names: Names, ids: &[u16]) -> bool
     let mut i = 1;
     while i < ids.len() {
         let id = id_at(ids, i);
-        if comes_before(metadata, names, last, id) {
+        if name_before(metadata, names, last, id) {
             last = id;
         } else {
             return false;
@@ -70,7 +71,7 @@ fn from_first(
     if second.len() <= j {
         return true;
     }
-    !comes_before(metadata, names, id_at(second, j), id_at(first, i))
+    !name_before(metadata, names, id_at(second, j), id_at(first, i))
 }
 
 // Merges two runs of ids by their names; of equal names the first run's come first.
@@ -125,7 +126,7 @@ fn sort_by(metadata: &[u8], names: Names, ids: &mut [u16], spare: &mut [u16])
 
 // Sorts ids by their names. The spare room goes by their count, so that few ids do not pay for many.
 pub fn sort(metadata: &[u8], names: Names, ids: &mut [u16])
-    requires { ⌜ Opened (now metadata) names × (allBelow (names .count) (now ids) ≡ true) × (length (now ids) ≤ 16384) ⌝ }
+    requires { ⌜ Opened (now metadata) names × (allBelow (names .count) (now ids) ≡ true) × (length (now ids) ≤ mostNames) ⌝ }
     ensures { λ _. ⌜ Sorted (namesIn (now (metadata .entry))) (now (ids .entry)) (now (ids .exit)) ⌝ }
 {
     if ids.len() <= 64 {

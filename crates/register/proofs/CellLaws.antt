@@ -1,4 +1,4 @@
--- The words of a cell: a float's and a double's bits come out as they were lent, a NaN's too; and no second answer.
+-- The words of a cell: a float's and a double's bits come out as they were lent, a NaN's too.
 use mathlib.Core.List.{List}
 use mathlib.Core.Path.{_≡_, refl, sym, ap, _∙_}
 use Prim.Native.Nat.{ℕ, _^_, _<_}
@@ -12,15 +12,10 @@ use Rattle.paper.specs.Operations.{cellAnswer}
 use Rattle.paper.specs.Schemas.{columnCode}
 use Rattle.paper.specs.declared.Cell.the-variants as variants
 use Rattle.paper.specs.declared.CellAnswer.the-variants.{Read}
-use Rattle.paper.specs.declared.CellAnswer.{CellAnswer}
-use Rattle.words.specs.Boundary.{cellWord}
-use Rattle.words.specs.CellParts.{firstWord, secondWord}
+use Rattle.words.specs.CellParts.{firstWord}
 use Rattle.cells.proofs.CellLaws.{number-read}
 use Rattle.numbers.proofs.NumberLaws.{number-below}
 use Rattle.words.proofs.BitsLaws.{bits-kept}
-use Rattle.words.proofs.BoundaryLaws.{one-answer}
-
--- ---- bits unchanged
 
 module _ (s : List ℕ) (bytes : (i : ℕ) → getD s i 0 < 256) where
   pub double-bits-unchanged : length s ≡ 8 → firstWord (cellAnswer 7 s) ≡ number s
@@ -38,18 +33,3 @@ module _ (s : List ℕ) (bytes : (i : ℕ) → getD s i 0 < 256) where
       let read : Read (numberCell 14 s) ≡ cellAnswer 14 s =
       number-read 14 s (omega arith) refl refl (λ z. omega arith) (λ z. omega arith) (λ z. omega arith) 4 refl e refl in
       ap firstWord (sym read) ∙ bits-kept binary32 variants.Float variants.FloatNan (λ x. refl) (λ n. refl) (number s) small
-
--- ---- no second answer
-
-module _ (code : ℕ) (s : List ℕ) where
-  pub one-cell : (r other : CellAnswer) → r ≡ cellAnswer code s → other ≡ cellAnswer code s → r ≡ other
-  one-cell r other = one-answer
-
-  pub one-cell-word : (r other : ℕ) → r ≡ cellWord (cellAnswer code s) → other ≡ cellWord (cellAnswer code s) → r ≡ other
-  one-cell-word r other = one-answer
-
-  pub one-first-word : (r other : ℕ) → r ≡ firstWord (cellAnswer code s) → other ≡ firstWord (cellAnswer code s) → r ≡ other
-  one-first-word r other = one-answer
-
-  pub one-second-word : (r other : ℕ) → r ≡ secondWord (cellAnswer code s) → other ≡ secondWord (cellAnswer code s) → r ≡ other
-  one-second-word r other = one-answer

@@ -14,6 +14,7 @@ use Rattle.dictionary.specs.declared.Names.{Names}
 use Rattle.documents.specs.Judged.{namesRead, documentBy, documentOf}
 use Rattle.documents.specs.declared.Document.the-variants.{Lawful, Refused}
 use Rattle.documents.specs.declared.Document.{Document}
+use Rattle.paper.specs.Bounds.{mostWalked}
 use Rattle.paper.specs.Boxes.{boxOf}
 use Rattle.paper.specs.Limits.{mostLevels, mostPath}
 use Rattle.paper.specs.Meaning.{Doc}
@@ -32,7 +33,6 @@ use Rattle.paper.specs.declared.Refusal.{Refusal}
 use Rattle.dictionary.proofs.DictionaryLaws.{opened-names}
 use Rattle.documents.proofs.DocumentLaws.{LawfulDocument, lawful-document}
 use Rattle.paper.proofs.WordLaws.{never, some-there}
-use Rattle.words.proofs.BoundaryLaws.{one-answer}
 
 -- ---- what comes next is come to from a lawful document; another is refused as check refuses it
 
@@ -90,15 +90,15 @@ module _ (m v : List ℕ) (r : Document) (told : r ≡ documentOf m v) where
 
   -- ---- find
 
-  pub find-asks : (names : Names) → r ≡ Lawful names → Opened m names × (isThere (meaningOf mostLevels (namesIn m) v) ≡ true) × (length v ≤ 65536)
+  pub find-asks : (names : Names) → r ≡ Lawful names → Opened m names × (isThere (meaningOf mostLevels (namesIn m) v) ≡ true) × (length v ≤ mostWalked)
   find-asks names e =
       let l = lawful names e in
       let short = l .short in
       (l .opened-is, some-there (meaningOf mostLevels (namesIn m) v) (l .means), omega arith)
 
-  module _ (p : List ℕ) (short : length p ≤ 1024) where
+  module _ (p : List ℕ) (short : length p ≤ mostPath) where
     both-fit : {A : Type 0} (x : Outcome A) → require (documentFits m v && leb (length p) mostPath) TooLong x ≡ require (documentFits m v) TooLong x
-    both-fit x = rw (le-leb (length p) 1024 short) (go (documentFits m v))
+    both-fit x = rw (le-leb (length p) mostPath short) (go (documentFits m v))
       where
         go : (b : Bool) → require (b && true) TooLong x ≡ require b TooLong x
         go true = refl
@@ -132,9 +132,9 @@ module _ (m v : List ℕ) (r : Document) (told : r ≡ documentOf m v) where
 -- ---- the parts of find
 
 -- A path longer than a path may be.
-pub path-long : (m v p : List ℕ) → 1024 < length p → Found.Refused TooLong ≡ findAnswer m v p
+pub path-long : (m v p : List ℕ) → mostPath < length p → Found.Refused TooLong ≡ findAnswer m v p
 unfolding findAnswer findOutcome foundBy require
-path-long m v p long = rw (lt-leb (length p) 1024 long) (go (documentFits m v) _)
+path-long m v p long = rw (lt-leb (length p) mostPath long) (go (documentFits m v) _)
   where
     go : (b : Bool) (x : Outcome (Option Child)) → Found.Refused TooLong ≡ foundBy (require (b && false) TooLong x)
     go true x = refl
@@ -150,8 +150,8 @@ module _ (m v p : List ℕ) (good : Bool) (told : good ≡ isThere (pathOf p)) w
       go none e = refl
       go (some steps) e = never e
 
-  pub path-asks : {names : Names} → Opened m names × (isThere (meaningOf mostLevels (namesIn m) v) ≡ true) × (length v ≤ 65536) → good ≡ true
-      → Opened m names × (isThere (meaningOf mostLevels (namesIn m) v) ≡ true) × (length v ≤ 65536) × (isThere (pathOf p) ≡ true)
+  pub path-asks : {names : Names} → Opened m names × (isThere (meaningOf mostLevels (namesIn m) v) ≡ true) × (length v ≤ mostWalked) → good ≡ true
+      → Opened m names × (isThere (meaningOf mostLevels (namesIn m) v) ≡ true) × (length v ≤ mostWalked) × (isThere (pathOf p) ≡ true)
   path-asks asks e = (asks .0, asks .1, asks .2, sym told ∙ e)
 
   -- f is what find answered along the path.
@@ -165,14 +165,3 @@ module _ (m v p : List ℕ) (good : Bool) (told : good ≡ isThere (pathOf p)) w
           → f ≡ foundBy (obtain x BadPath λ steps. reached (findFrom (namesIn m) steps 0 v))
       go none e is = never (sym e)
       go (some steps) e is = is steps refl
-
--- ---- no second answer satisfies a contract
-
-pub one-check : (m v : List ℕ) (r other : Checked) → r ≡ checkAnswer m v → other ≡ checkAnswer m v → r ≡ other
-one-check m v r other = one-answer
-
-pub one-find : (m v p : List ℕ) (r other : Found) → r ≡ findAnswer m v p → other ≡ findAnswer m v p → r ≡ other
-one-find m v p r other = one-answer
-
-pub one-box : (m v : List ℕ) (r other : BoxAnswer) → r ≡ boxAnswer m v → other ≡ boxAnswer m v → r ≡ other
-one-box m v r other = one-answer

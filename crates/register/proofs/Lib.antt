@@ -3,3 +3,4 @@ pub mod CellLaws
 pub mod DocumentAnswers
 pub mod NormaliseLaws
 pub mod FoundLaws
+pub mod OneAnswer

@@ -1,9 +1,9 @@
 -- Normalise: a lawful document comes to what is written of it, another is refused and leaves both buffers as they were;
--- the lengths have room in a word; and no second answer satisfies the contract.
+-- and the lengths have room in a word.
 use mathlib.Core.Bool.{Bool, true, false, cond, _&&_}
-use mathlib.Core.List.{List, []}
+use mathlib.Core.List.{List}
 use mathlib.Core.Option.{some}
-use mathlib.Core.Path.{_≡_, refl, sym, ap, subst, _∙_}
+use mathlib.Core.Path.{_≡_, refl, sym, ap, _∙_}
 use Prim.Native.Nat.{ℕ, _^_, _≤_, _<_}
 use native.Mathlib.Omega.{arith}
 use borrow.Author.Tests.{lt-ltb}
@@ -14,7 +14,6 @@ use Rattle.documents.specs.Judged.{documentOf}
 use Rattle.documents.specs.declared.Document.the-variants.{Lawful, Refused}
 use Rattle.documents.specs.declared.Document.{Document}
 use Rattle.normalise.specs.Answered.{Answered, Lent}
-use Rattle.numbers.specs.Little.{putAt}
 use Rattle.paper.specs.Limits.{mostLevels, mostMetadata, mostValue}
 use Rattle.paper.specs.Meaning.{Doc}
 use Rattle.paper.specs.Metadata.{namesIn}
@@ -26,11 +25,10 @@ use Rattle.paper.specs.Values.{meaningOf}
 use Rattle.paper.specs.declared.DocumentAnswer.the-variants as document
 use Rattle.paper.specs.declared.DocumentAnswer.{DocumentAnswer}
 use Rattle.paper.specs.declared.Refusal.{Refusal}
-use Rattle.words.specs.Boundary.{documentFits}
+use Rattle.words.specs.Boundary.{documentHasRoom}
 use Rattle.forms.proofs.NormalLaws.{Accepted, accepted, normal-shorter}
 use Rattle.numbers.proofs.PutLaws.{put-none}
 use Rattle.paper.proofs.WordLaws.{some-there}
-use Rattle.words.proofs.BoundaryLaws.{one-answer}
 use Rattle.register.proofs.DocumentAnswers.{judged-lawful, judged-refused, lawful, refused-same}
 
 module _ (m v : List ℕ) (r : Document) (told : r ≡ documentOf m v) where
@@ -67,31 +65,23 @@ module _ (m v : List ℕ) (bytes : (i : ℕ) → getD m i 0 < 256) where
       let own : length (n .metadata) ≡ length (metadataBytes (namesUsed (a .d))) = ap (λ (k : normal.Document). length (k .metadata)) (sym (a .written-is)) in
       let own-value : length (n .value) ≡ length (valueBytes (namesUsed (a .d)) (a .d)) = ap (λ (k : normal.Document). length (k .value)) (sym (a .written-is)) in
       let shorter : length (metadataBytes (namesUsed (a .d))) ≤ length m = normal-shorter m v n a bytes in
-      let fit : length m ≤ 16384 = a .metadata-fits in
-      let fit-value : length (valueBytes (namesUsed (a .d)) (a .d)) ≤ 16384 = a .written-fits in
+      let fit : length m ≤ mostMetadata = a .metadata-fits in
+      let fit-value : length (valueBytes (namesUsed (a .d)) (a .d)) ≤ mostValue = a .written-fits in
       let one : length (n .metadata) < 2 ^ 24 = omega arith in
       let two : length (n .value) < 2 ^ 24 = omega arith in
       rw (lt-ltb (length (n .metadata)) (2 ^ 24) one, lt-ltb (length (n .value)) (2 ^ 24) two)
 
-  lengths-fit : (o : Outcome normal.Document) → normaliseOutcome m v ≡ o → (a b : ℕ) → documentFits (documentAnswer o a b) ≡ true
-  unfolding documentFits documentAnswer
+  lengths-fit : (o : Outcome normal.Document) → normaliseOutcome m v ≡ o → (a b : ℕ) → documentHasRoom (documentAnswer o a b) ≡ true
+  unfolding documentAnswer
   lengths-fit (refused refusal) e a b = refl
   lengths-fit (reached n) e a b = go (documentRoom n a b) (reached-fits n e)
     where
       go : (room : Bool) → ltb (length (n .metadata)) (2 ^ 24) && ltb (length (n .value)) (2 ^ 24) ≡ true
-          → documentFits (cond room (document.Done (length (n .metadata)) (length (n .value))) (document.Short (length (n .metadata)) (length (n .value)))) ≡ true
+          → documentHasRoom (cond room (document.Done (length (n .metadata)) (length (n .value))) (document.Short (length (n .metadata)) (length (n .value)))) ≡ true
       go true small = small
       go false small = small
 
   pub answer-fits : (first first′ second second′ : List ℕ) (answer : DocumentAnswer)
-      → Answered (normaliseOutcome m v) first first′ second second′ answer → documentFits answer ≡ true
+      → Answered (normaliseOutcome m v) first first′ second second′ answer → documentHasRoom answer ≡ true
   answer-fits first first′ second second′ answer is =
-      ap documentFits (is .answer-is) ∙ lengths-fit (normaliseOutcome m v) refl (length first) (length second)
-
--- ---- no second answer satisfies the contract
-
-pub one-normalise : (m v first first′ first″ second second′ second″ : List ℕ) (r other : DocumentAnswer)
-    → Answered (normaliseOutcome m v) first first′ second second′ r → Answered (normaliseOutcome m v) first first″ second second″ other
-    → (r ≡ other) × (first′ ≡ first″) × (second′ ≡ second″)
-one-normalise m v first first′ first″ second second′ second″ r other is also =
-    (one-answer (is .answer-is) (also .answer-is), one-answer (is .metadata-is) (also .metadata-is), one-answer (is .value-is) (also .value-is))
+      ap documentHasRoom (is .answer-is) ∙ lengths-fit (normaliseOutcome m v) refl (length first) (length second)

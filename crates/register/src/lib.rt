@@ -6,6 +6,7 @@ ghost use mathlib.Core.Bool.{true};
 ghost use Prim.Native.Nat.{_≤_};
 ghost use lib.ListN.{length};
 ghost use Rattle.dictionary.specs.Judging.{Opened};
+ghost use Rattle.paper.specs.Bounds.{mostWalked};
 ghost use Rattle.paper.specs.Limits.{mostLevels};
 ghost use Rattle.paper.specs.Metadata.{namesIn};
 ghost use Rattle.normalise.specs.Answered.{Answered};
@@ -52,7 +53,7 @@ pub extern "C" fn tanvelis_check(metadata: &[u8], value: &[u8]) -> u64
 
 // A path in a lawful document.
 fn find_in(metadata: &[u8], names: Names, value: &[u8], path: &[u8]) -> Found
-    requires { ⌜ Opened (now metadata) names × (isThere (meaningOf mostLevels (namesIn (now metadata)) (now value)) ≡ true) × (length (now value) ≤ 65536) ⌝ }
+    requires { ⌜ Opened (now metadata) names × (isThere (meaningOf mostLevels (namesIn (now metadata)) (now value)) ≡ true) × (length (now value) ≤ mostWalked) ⌝ }
     ensures { λ r. ⌜ r ≡ foundBy (obtain (pathOf (now (path .entry))) Refusal.BadPath λ steps. reached (findFrom (namesIn (now (metadata .entry))) steps 0 (now (value .entry)))) ⌝ }
 {
     if paths::path_good(path) {

@@ -51,3 +51,9 @@ boxWord answer = wordWith 0 (boxCarries answer)
 -- The values have room in the word.
 abbrev pub hasRoom : (count : ℕ) → Carried → Bool
 hasRoom count carried = ltb (part count carried 0) (2 ^ 24) && ltb (part count carried 1) (2 ^ 24)
+
+abbrev pub foundHasRoom : Found → Bool
+foundHasRoom answer = hasRoom 2 (foundCarries answer)
+
+abbrev pub documentHasRoom : DocumentAnswer → Bool
+documentHasRoom answer = hasRoom 2 (documentCarries answer)

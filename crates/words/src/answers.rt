@@ -2,8 +2,8 @@
 ghost use mathlib.Core.Path.{_≡_};
 ghost use mathlib.Core.Bool.{true, cond};
 ghost use Prim.Native.Nat.{_<_, _^_};
-ghost use Rattle.paper.specs.Answers.{Carried, foundCarries, documentCarries};
-ghost use Rattle.words.specs.Boundary.{word, wordWith, checkedWord, foundWord, documentWord, hasRoom};
+ghost use Rattle.paper.specs.Answers.{Carried};
+ghost use Rattle.words.specs.Boundary.{word, wordWith, checkedWord, foundWord, documentWord, foundHasRoom, documentHasRoom};
 use paper::Checked;
 use paper::DocumentAnswer;
 use paper::Found;
@@ -37,7 +37,7 @@ pub fn checked_word(answer: Checked) -> u64
 
 // The word of what find answers: the start and the length in the value.
 pub fn found_word(answer: Found) -> u64
-    requires { ⌜ hasRoom 2 (foundCarries answer) ≡ true ⌝ }
+    requires { ⌜ foundHasRoom answer ≡ true ⌝ }
     ensures { λ r. ⌜ r ≡ foundWord answer ⌝ }
 {
     match answer {
@@ -49,7 +49,7 @@ pub fn found_word(answer: Found) -> u64
 
 // The word of what normalise and rebuild answer: the lengths written, or the lengths needed with 9.
 pub fn document_word(answer: DocumentAnswer) -> u64
-    requires { ⌜ hasRoom 2 (documentCarries answer) ≡ true ⌝ }
+    requires { ⌜ documentHasRoom answer ≡ true ⌝ }
     ensures { λ r. ⌜ r ≡ documentWord answer ⌝ }
 {
     match answer {

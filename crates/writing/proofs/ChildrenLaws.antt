@@ -13,6 +13,7 @@ use Rattle.heads.specs.Extents.{extentAnswer}
 use Rattle.heads.specs.declared.Extent.{Extent}
 use Rattle.heads.specs.declared.Extent.the-variants.{Size, Unknown}
 use Rattle.numbers.specs.Little.{numberAt}
+use Rattle.paper.specs.Bounds.{mostWalked}
 use Rattle.paper.specs.Values.{childExtent, childBytes, areaOf, startsOf}
 use Rattle.paper.specs.Words.{numbers, joined}
 use Rattle.containers.proofs.OwnLaws.{own-is, known}
@@ -41,10 +42,10 @@ joined-drop (one ∷ more) (suc k) =
 pub record ChildrenSeen (levels : ℕ) (s ranks : List ℕ) (c i w : ℕ) (area starts out₀ out : List ℕ) (count end start k : ℕ) : Type 0 where
   pub within : k ≤ count
   pub starts-in : count * w ≤ length starts
-  pub starts-small : length starts ≤ 65536
+  pub starts-small : length starts ≤ mostWalked
   pub same-area : area ≡ areaOf c i w s
   pub same-starts : numbers w count starts ≡ startsOf c i w s
-  pub small : length area ≤ 65536
+  pub small : length area ≤ mostWalked
   pub same-size : length out ≡ length out₀
   pub ends : EndsAt (joined (drop k (partsOf (rewritten levels ranks) c i w s))) out₀ out end start
 

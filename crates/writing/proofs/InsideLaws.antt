@@ -12,6 +12,7 @@ use Rattle.forms.proofs.LieLaws.{child-length}
 use Rattle.forms.proofs.PartLaws.{AllFilled}
 use Rattle.forms.proofs.ScalarLaws.{Filled}
 use Rattle.marking.specs.Ids.{idsOfAll, idsInside, idsIn}
+use Rattle.paper.specs.Bounds.{mostWalked}
 use Rattle.paper.proofs.WordLaws.{never, then-some, and-both}
 use Rattle.paper.specs.Metadata.{Dictionary}
 use Rattle.paper.specs.Values.{Child, childExtent, childrenAt, childBytes, meaningOf}
@@ -74,9 +75,9 @@ module _ (levels : ℕ) (names : Dictionary) (ranks area : List ℕ) where
   unfolding partAt sizedPart
   part-is child = rw (child .long)
 
-  module _ (small : length area ≤ 65536) where
+  module _ (small : length area ≤ mostWalked) where
     pub child-small : {start : ℕ} (child : WritableChild levels names ranks area start)
-        → length (childBytes area (record { start = start; size = child .size })) ≤ 65536
+        → length (childBytes area (record { start = start; size = child .size })) ≤ mostWalked
     child-small {start} child =
         let long = child-length area (record { start = start; size = child .size }) (child .long) in
         let fits = extent-fits area start (child .size) (child .long) .1 in

@@ -11,6 +11,7 @@ use lib.ListN.{length, getD, drop, length-map, length-drop}
 use Rattle.forms.proofs.LieLaws.{Bytes, bytes-drop, child-bytes, child-length, elements-lie, members-lie}
 use Rattle.marking.specs.Ids.{holds, idsOfAll, idsInside, idsBy, idsIn}
 use Rattle.names.proofs.SameLaws.{or-second}
+use Rattle.paper.specs.Bounds.{mostWalked}
 use Rattle.paper.proofs.MeaningLaws.{string-is, prefixed-is}
 use Rattle.paper.proofs.WordLaws.{never, given-some, then-some, some-there}
 use Rattle.paper.specs.FirstBytes.{readingOf}
@@ -69,9 +70,9 @@ module _ (names normal : Dictionary) (ranks : List ℕ) where
 -- ---- the insides of containers
 
 module _ (names normal : Dictionary) (ranks : List ℕ) (decode : List ℕ → Option Doc) (idsWithin write : List ℕ → List ℕ)
-    (each : (s : List ℕ) (d : Doc) → decode s ≡ some d → Bytes s → length s ≤ 65536 → Right names normal ranks (idsWithin s)
+    (each : (s : List ℕ) (d : Doc) → decode s ≡ some d → Bytes s → length s ≤ mostWalked → Right names normal ranks (idsWithin s)
     → write s ≡ valueBytes normal d)
-    (area : List ℕ) (bytes : Bytes area) (small : length area ≤ 65536) where
+    (area : List ℕ) (bytes : Bytes area) (small : length area ≤ mostWalked) where
   part-written : (start size : ℕ) (d : Doc) → childExtent area start ≡ some size
       → decode (childBytes area (record { start = start; size = size })) ≡ some d
       → Right names normal ranks (idsWithin (childBytes area (record { start = start; size = size }))) → partAt write area start ≡ valueBytes normal d
@@ -135,14 +136,14 @@ names-length names ids = length-map ids (λ (id : ℕ). getD names id [])
 -- ---- any value, by its reading
 
 module _ (names normal : Dictionary) (ranks : List ℕ) (decode : List ℕ → Option Doc) (idsWithin write : List ℕ → List ℕ)
-    (each : (s : List ℕ) (d : Doc) → decode s ≡ some d → Bytes s → length s ≤ 65536 → Right names normal ranks (idsWithin s)
+    (each : (s : List ℕ) (d : Doc) → decode s ≡ some d → Bytes s → length s ≤ mostWalked → Right names normal ranks (idsWithin s)
     → write s ≡ valueBytes normal d)
-    (s : List ℕ) (bytes : Bytes s) (small : length s ≤ 65536) (fills : whole s ≡ true) where
+    (s : List ℕ) (bytes : Bytes s) (small : length s ≤ mostWalked) (fills : whole s ≡ true) where
   area-bytes : (c i w : ℕ) → Bytes (areaOf c i w s)
   unfolding areaOf
   area-bytes c i w = bytes-drop (headSize (numberAt s 1 c) c i w) s bytes
 
-  area-small : (c i w : ℕ) → length (areaOf c i w s) ≤ 65536
+  area-small : (c i w : ℕ) → length (areaOf c i w s) ≤ mostWalked
   unfolding areaOf
   area-small c i w = rw length-drop (omega arith)
 
@@ -184,7 +185,7 @@ module _ (names normal : Dictionary) (ranks : List ℕ) (decode : List ℕ → O
       rw parts (ap (valueBytes normal) (some-injective (array (inside .0)) d (inside .2)))
   written-by Nothing is d e right = never (sym (some-there none e))
 
-pub rewritten-is : (levels : ℕ) (names normal : Dictionary) (ranks s : List ℕ) (d : Doc) → meaningOf levels names s ≡ some d → Bytes s → length s ≤ 65536
+pub rewritten-is : (levels : ℕ) (names normal : Dictionary) (ranks s : List ℕ) (d : Doc) → meaningOf levels names s ≡ some d → Bytes s → length s ≤ mostWalked
     → Right names normal ranks (idsIn levels s) → rewritten levels ranks s ≡ valueBytes normal d
 unfolding meaningOf isThere idsIn rewritten
 rewritten-is zero names normal ranks s d e bytes small right = never (sym (some-there none e))

@@ -6,6 +6,7 @@ use native.Mathlib.Omega.{arith}
 use lib.ListN.{length, drop}
 use lib.Seq.{drop-at, drop-drop}
 use Rattle.forms.proofs.PartLaws.{AllFilled}
+use Rattle.paper.specs.Bounds.{mostWalked}
 use Rattle.paper.specs.Values.{areaOf, startsOf}
 use Rattle.paper.specs.Words.{at, joined}
 use Rattle.containers.proofs.LayoutLaws.{area-same, area-small}
@@ -28,7 +29,7 @@ module _ {levels : ℕ} {s ranks : List ℕ} {c i w room end : ℕ} (holding : H
   filled : (l : Layout) → LaidOut s c i w l → AllFilled parts
   unfolding partsOf
   filled l laid =
-      let small : length (areaOf c i w s) ≤ 65536 = rw (area-same s c i w container l laid) at (area-small s c i w container l laid) in
+      let small : length (areaOf c i w s) ≤ mostWalked = rw (area-same s c i w container l laid) at (area-small s c i w container l laid) in
       let fit = holding .fits in
       let most = holding .most in
       parts-filled levels (holding .names) ranks (areaOf c i w s) small (startsOf c i w s) (holding .each) (omega arith)

@@ -13,6 +13,7 @@ use Rattle.forms.proofs.ScalarLaws.{Filled, scalar-written}
 use Rattle.forms.specs.WellFormed.{scalarGood}
 use Rattle.heads.proofs.HeadLaws.{extent-some}
 use Rattle.marking.specs.Ids.{idsBy, idsIn}
+use Rattle.paper.specs.Bounds.{mostWalked}
 use Rattle.paper.proofs.WordLaws.{never, there-given, given-some, and-both}
 use Rattle.paper.specs.FirstBytes.{readingOf}
 use Rattle.paper.specs.Meaning.{text}
@@ -108,7 +109,7 @@ module _ (inner : List ℕ → List ℕ) {s : List ℕ} {c i w : ℕ} (container
   ids-counted ranks least =
       length-map (idsOf c i s) (λ (id : ℕ). getD ranks id 0) ∙ ids-starts-length s c i w container least ∙ sym (parts-length inner c i w s)
 
-pub rewritten-filled : (levels : ℕ) (names : Dictionary) (ranks s : List ℕ) → isThere (meaningOf levels names s) ≡ true → length s ≤ 65536
+pub rewritten-filled : (levels : ℕ) (names : Dictionary) (ranks s : List ℕ) → isThere (meaningOf levels names s) ≡ true → length s ≤ mostWalked
     → length (rewritten levels ranks s) < 2 ^ 32 → Filled (rewritten levels ranks s)
 unfolding rewrittenBy ranksAt
 rewritten-filled levels names ranks s e small fit = go (readingOf (at s 0)) refl

@@ -6,6 +6,7 @@ use mathlib.Core.Path.{_≡_}
 use Prim.Native.Nat.{ℕ, _≤_, _<_}
 use lib.ListN.{length, getD}
 use Rattle.marking.specs.Ids.{idsIn, holds}
+use Rattle.paper.specs.Bounds.{mostWalked}
 use Rattle.paper.specs.Meaning.{Doc}
 use Rattle.paper.specs.Metadata.{Dictionary}
 use Rattle.paper.specs.Normal.{idOf, valueBytes}
@@ -26,12 +27,12 @@ pub record Ready (levels : ℕ) (s ranks : List ℕ) (room end : ℕ) : Type 0 w
   pub d : Doc
   pub meant : meaningOf levels names s ≡ some d
   pub bytes : (i : ℕ) → getD s i 0 < 256
-  pub small : length s ≤ 65536
+  pub small : length s ≤ mostWalked
   pub ranked : allBelow (length ranks) (idsIn levels s) ≡ true
   pub right : Right names normal ranks (idsIn levels s)
   pub fits : length (valueBytes normal d) ≤ end
   pub within : end ≤ room
-  pub most : end ≤ 65536
+  pub most : end ≤ mostWalked
 
 -- The normal form of a document ends at a place.
 abbrev pub Wrote : Dictionary → Doc → List ℕ → List ℕ → ℕ → ℕ → Type 0
@@ -41,11 +42,11 @@ Wrote normal d before after end start = EndsAt (valueBytes normal d) before afte
 pub record Writable (levels : ℕ) (s ranks : List ℕ) (room end : ℕ) : Type 0 where
   pub names : Dictionary
   pub meant : isThere (meaningOf levels names s) ≡ true
-  pub small : length s ≤ 65536
+  pub small : length s ≤ mostWalked
   pub ranked : allBelow (length ranks) (idsIn levels s) ≡ true
   pub fits : length (rewritten levels ranks s) ≤ end
   pub within : end ≤ room
-  pub most : end ≤ 65536
+  pub most : end ≤ mostWalked
 
 -- A child that is there and lawful inside.
 pub record WritableChild (levels : ℕ) (names : Dictionary) (ranks area : List ℕ) (start : ℕ) : Type 0 where
@@ -62,4 +63,4 @@ pub record Holding (levels : ℕ) (s ranks : List ℕ) (counted id width room en
       → WritableChild levels names ranks (areaOf counted id width s) (getD (startsOf counted id width s) k 0)
   pub fits : length (joined (partsOf (rewritten levels ranks) counted id width s)) ≤ end
   pub within : end ≤ room
-  pub most : end ≤ 65536
+  pub most : end ≤ mostWalked

@@ -6,6 +6,7 @@ ghost use Prim.Native.Nat.{ℕ, _+_, _-_, _*_, _≤_, _<_};
 ghost use lib.ListN.{length};
 ghost use Rattle.heads.specs.Packing.{Readings};
 ghost use Rattle.numbers.specs.Little.{numberBytes, smallestWidth};
+ghost use Rattle.paper.specs.Bounds.{mostWalked};
 ghost use Rattle.paper.specs.FirstBytes.{countSize};
 ghost use Rattle.paper.specs.Normal.{largeBit, largest};
 ghost use Rattle.paper.specs.Values.{headSize};
@@ -38,7 +39,7 @@ fn opened(first: usize, large: usize, count: usize, out: &mut [u8], end: usize) 
 // Writes the head of an array whose elements stand from one place up to another, so many, so that it ends where they
 // start. Answers where it starts.
 pub fn array_head(readings: &[u8], count: usize, out: &mut [u8], start: usize, end: usize) -> usize
-    requires { ⌜ Readings (now readings) × Lying (now out) start end count × (count ≤ 65536) × (end ≤ length (now out)) × (headSize count (countSize (largeBit count)) 0 (smallestWidth (end - start)) ≤ start) ⌝ }
+    requires { ⌜ Readings (now readings) × Lying (now out) start end count × (count ≤ mostWalked) × (end ≤ length (now out)) × (headSize count (countSize (largeBit count)) 0 (smallestWidth (end - start)) ≤ start) ⌝ }
     ensures { λ r. ⌜ ((parts : List (List ℕ)) → Lies (now (out .entry)) start end parts → length parts ≡ count → EndsAt (arrayHead parts) (now (out .entry)) (now (out .exit)) start r) ⌝ }
 {
     let width = numbers::width_of(end - start);
@@ -58,13 +59,13 @@ pub fn object_head(
     start: usize,
     end: usize,
 ) -> usize
-    requires { ⌜ Readings (now readings) × Lying (now out) start end count × (count ≤ 65536) × (end ≤ length (now out)) × (headSize count (countSize (largeBit count)) (smallestWidth (largest (ranksAt (now ranks) (numbers id count (now ids))))) (smallestWidth (end - start)) ≤ start) ⌝ }
+    requires { ⌜ Readings (now readings) × Lying (now out) start end count × (count ≤ mostWalked) × (end ≤ length (now out)) × (headSize count (countSize (largeBit count)) (smallestWidth (largest (ranksAt (now ranks) (numbers id count (now ids))))) (smallestWidth (end - start)) ≤ start) ⌝ }
     requires { ⌜ (count * id ≤ length (now ids)) × (1 ≤ id) × (id ≤ 4) × (allBelow (length (now ranks)) (numbers id count (now ids)) ≡ true) ⌝ }
     ensures { λ r. ⌜ ((parts : List (List ℕ)) → Lies (now (out .entry)) start end parts → length parts ≡ count → EndsAt (objectHead (ranksAt (now (ranks .entry)) (numbers id count (now (ids .entry)))) parts) (now (out .entry)) (now (out .exit)) start r) ⌝ }
 {
     let offset_width = numbers::width_of(end - start);
     let offsets = write_offsets(readings, count, offset_width, out, start, end);
-    let id_width = numbers::width_of(largest_of(ranks, ids, id, count));
+    let id_width = numbers::width_of(largest_of(ranks, ids, id, count).0);
     let named = write_ids(ranks, ids, id, count, id_width, out, offsets);
     opened(
         2 + 4 * (offset_width - 1) + 16 * (id_width - 1),

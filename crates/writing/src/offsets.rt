@@ -4,6 +4,7 @@ ghost use mathlib.Core.List.{List};
 ghost use Prim.Native.Nat.{ℕ, _+_, _*_, _≤_};
 ghost use lib.ListN.{length};
 ghost use Rattle.heads.specs.Packing.{Readings};
+ghost use Rattle.paper.specs.Bounds.{mostWalked};
 ghost use Rattle.paper.specs.Normal.{numbersBytes, offsetsFrom};
 ghost use Rattle.writing.specs.Ends.{EndsAt, Lies, Lying};
 use heads::Extent;
@@ -18,7 +19,7 @@ pub fn write_offsets(
     start: usize,
     end: usize,
 ) -> usize
-    requires { ⌜ Readings (now readings) × Lying (now out) start end count × (1 ≤ width) × (width ≤ 4) × ((count + 1) * width ≤ start) × (count ≤ 65536) × (end ≤ length (now out)) ⌝ }
+    requires { ⌜ Readings (now readings) × Lying (now out) start end count × (1 ≤ width) × (width ≤ 4) × ((count + 1) * width ≤ start) × (count ≤ mostWalked) × (end ≤ length (now out)) ⌝ }
     ensures { λ r. ⌜ ((parts : List (List ℕ)) → Lies (now (out .entry)) start end parts → length parts ≡ count → EndsAt (numbersBytes width (offsetsFrom 0 parts)) (now (out .entry)) (now (out .exit)) start r) ⌝ }
 {
     let from = start - (count + 1) * width;
