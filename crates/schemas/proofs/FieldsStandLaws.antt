@@ -15,9 +15,10 @@ use Rattle.paper.specs.Words.{at, andThen}
 use Rattle.paper.proofs.WordLaws.{given-some, then-some}
 use Rattle.names.proofs.RisingLaws.{rising-more}
 use Rattle.schemas.proofs.FieldLaws.{fieldThen, columns-at, columns-ended}
-use Rattle.schemas.proofs.FrameLaws.{FieldHere, field-here}
+use Rattle.schemas.proofs.FieldFrameLaws.{FieldHere, field-here}
 use Rattle.schemas.proofs.StandingLaws.{node-stands}
-use Rattle.schemas.specs.Positions.{frameEnd, fieldNode, fieldName, fieldWithin, nodeIn, columnsIn, Stands, FieldsStand}
+use Rattle.schemas.specs.Frames.{frameEnd}
+use Rattle.schemas.specs.Positions.{fieldNode, fieldName, fieldWithin, nodeIn, columnsIn, Stands, FieldsStand}
 
 -- A field stands at a place: its name, its node, and the fields behind it.
 pub record FieldStands (levels : ℕ) (s : List ℕ) (place to : ℕ) (name : List ℕ) (node : Schema) (more : SchemaFields) : Type 0 where

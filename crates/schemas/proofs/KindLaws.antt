@@ -9,7 +9,8 @@ use Rattle.paper.specs.Schemas.{Schema, leftoverOnly, column, list, fields, Sch
 use Rattle.paper.specs.Words.{at}
 use Rattle.schemas.proofs.StandingLaws.{ListStands, ObjectStands, NodeAt, leftoverAt, columnAt, listAt, fieldsAt, node-at}
 use Rattle.schemas.specs.Kinds.{kindOf, kindAt, KindThere}
-use Rattle.schemas.specs.Positions.{frameEnd, Stands}
+use Rattle.schemas.specs.Frames.{frameEnd}
+use Rattle.schemas.specs.Positions.{Stands}
 use Rattle.schemas.specs.declared.readers.Kind.{Kind}
 use Rattle.schemas.specs.declared.readers.Kind.the-variants.{Leftover, Column as ColumnKind, List as ListKind, Fields}
 
