@@ -4,3 +4,5 @@ pub mod PartLaws
 pub mod PlaceLaws
 pub mod StepLaws
 pub mod HalfLaws
+pub mod LeftLaws
+pub mod WalkLaws

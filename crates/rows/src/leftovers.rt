@@ -16,6 +16,7 @@ ghost use Rattle.rows.specs.Verdicts.{brokenIf};
 ghost use Rattle.rows.specs.Walking.{LeftReady, BesideReady};
 use crate::verdicts::Verdict;
 use crate::verdicts::broken_if;
+use clashes::clash;
 use dictionary::Names;
 
 // A leftover is a lawful value, no longer than a leftover may be.
@@ -82,7 +83,7 @@ fn beside_broken(
     }
     let from = node + 3;
     let to = schemas::frame_end(schema, node);
-    to == from
+    clash(readings, metadata, names, left, schema, from, to)
 }
 
 // A leftover beside something typed, by what that comes to.
