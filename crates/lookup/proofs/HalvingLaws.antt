@@ -72,17 +72,17 @@ order-less a b = go (before a b) (before b a)
   where
     go : (p q : Bool) → cond p Less (cond q Greater Equal) ≡ Less → p ≡ true
     go true q e = refl
-    go false true e = never (let z : _≡_ {A = ℕ} 0 1 = cc in absurd (omega arith))
-    go false false e = never (let z : _≡_ {A = ℕ} 0 1 = cc in absurd (omega arith))
+    go false true e = absurd (let z : _≡_ {A = ℕ} 0 1 = cc in omega arith)
+    go false false e = absurd (let z : _≡_ {A = ℕ} 0 1 = cc in omega arith)
 
 order-greater : (a b : List ℕ) → orderOf a b ≡ Greater → before b a ≡ true
 unfolding orderOf
 order-greater a b = go (before a b) (before b a)
   where
     go : (p q : Bool) → cond p Less (cond q Greater Equal) ≡ Greater → q ≡ true
-    go true q e = never (let z : _≡_ {A = ℕ} 0 1 = cc in absurd (omega arith))
+    go true q e = absurd (let z : _≡_ {A = ℕ} 0 1 = cc in omega arith)
     go false true e = refl
-    go false false e = never (let z : _≡_ {A = ℕ} 0 1 = cc in absurd (omega arith))
+    go false false e = absurd (let z : _≡_ {A = ℕ} 0 1 = cc in omega arith)
 
 -- A name that stands at no place is not among them.
 differ : (name : List ℕ) (names : Dictionary) → ((i : ℕ) → i < length names → getD names i [] ≡ name → ⊥) → among name names ≡ false
