@@ -1,21 +1,19 @@
 -- An object's fields one at a time: the first field's frames, its node, and the fields behind it.
-use mathlib.Core.Bool.{Bool, true, false, not, _&&_}
-use mathlib.Core.List.{List, [], _∷_, _++_}
+use mathlib.Core.Bool.{Bool, true, false, _&&_}
+use mathlib.Core.List.{List, [], _∷_}
 use mathlib.Core.Option.{Option, none, some}
 use mathlib.Core.Path.{_≡_, refl, sym, ap, _∙_}
-use Prim.Native.Nat.{ℕ, zero, suc, _+_, _-_, _≤_, _<_}
+use Prim.Native.Nat.{ℕ, _+_, _≤_, _<_}
 use native.Mathlib.Omega.{arith}
 use borrow.Author.Tests.{lt-leb, leb-true, leb-false}
 use lib.Dec.{leb, eqb}
 use lib.ListN.{length}
-use Rattle.order.specs.Before.{before}
 use Rattle.paper.specs.Framing.{Piece, piecesOf, only, onePiece}
-use Rattle.paper.specs.Metadata.{rising}
-use Rattle.paper.specs.Schemas.{Schema, fields, SchemaFields, noColumns, named, columnNames, fieldParts, fieldNodes, nodeBy, nodeOf}
-use Rattle.paper.specs.Words.{at, part, given, andThen, isThere}
+use Rattle.paper.specs.Schemas.{Schema, SchemaFields, noColumns, named, fieldParts, fieldNodes, nodeOf}
+use Rattle.paper.specs.Words.{at, part, given, andThen}
 use Rattle.schemas.proofs.FrameLaws.{tagged-ends}
 use Rattle.schemas.proofs.FramingLaws.{pieceThen, pieces-ended, pieces-step}
-use Rattle.schemas.specs.Positions.{frameEnd, pieceAt, fieldNode, fieldName, frameWithin, taggedWithin, fieldWithin, followsAt, nodeIn, columnsIn, objectIn}
+use Rattle.schemas.specs.Positions.{frameEnd, pieceAt, fieldNode, fieldName, frameWithin, taggedWithin, fieldWithin, nodeIn, columnsIn}
 
 -- ---- a field's parts
 

@@ -8,26 +8,15 @@ use Prim.Native.Nat.{ℕ, _+_, _≤_, _<_}
 use native.Mathlib.Omega.{arith}
 use borrow.Author.Tests.{leb-true, leb-false}
 use lib.Dec.{leb}
-use lib.ListN.{length}
-use Rattle.paper.specs.Framing.{onePiece}
 use Rattle.paper.specs.Metadata.{rising}
-use Rattle.paper.specs.Schemas.{Schema, SchemaFields, noColumns, named, columnNames, nodeOf}
-use Rattle.paper.specs.Words.{at, part, andThen}
+use Rattle.paper.specs.Schemas.{Schema, SchemaFields, noColumns, named, columnNames}
+use Rattle.paper.specs.Words.{at, andThen}
 use Rattle.paper.proofs.WordLaws.{given-some, then-some}
 use Rattle.names.proofs.RisingLaws.{rising-more}
 use Rattle.schemas.proofs.FieldLaws.{fieldThen, columns-at, columns-ended}
 use Rattle.schemas.proofs.FrameLaws.{FieldHere, field-here}
-use Rattle.schemas.proofs.StandingLaws.{alone-is}
-use Rattle.schemas.specs.Positions.{frameEnd, pieceAt, fieldNode, fieldName, fieldWithin, nodeIn, columnsIn, Stands, FieldsStand}
-
--- A node alone between two positions stands at the first.
-pub node-stands : (levels : ℕ) (s : List ℕ) (from to : ℕ) (node : Schema) → to ≤ length s → nodeIn levels s from to ≡ some node
-    → Stands levels s from node × (frameEnd s from ≡ to)
-unfolding nodeIn
-node-stands levels s from to node within e =
-    let alone = then-some (onePiece (part s from to)) (nodeOf levels) e in
-    let fills = alone-is s from to within (alone .1) in
-    (record { within = omega (arith, fills .0); is = sym (ap (nodeOf levels) (fills .1)) ∙ alone .2 }, fills .0)
+use Rattle.schemas.proofs.StandingLaws.{node-stands}
+use Rattle.schemas.specs.Positions.{frameEnd, fieldNode, fieldName, fieldWithin, nodeIn, columnsIn, Stands, FieldsStand}
 
 -- A field stands at a place: its name, its node, and the fields behind it.
 pub record FieldStands (levels : ℕ) (s : List ℕ) (place to : ℕ) (name : List ℕ) (node : Schema) (more : SchemaFields) : Type 0 where
@@ -97,7 +86,7 @@ module _ {levels : ℕ} {s : List ℕ} {place to : ℕ} where
       go true e = omega (arith, leb-true to place e, stand .ordered)
       go false e = let first = first-field stand (leb-false to place e) in let z : _≡_ {A = ℕ} 0 1 = cc (first .are) in absurd (omega arith)
 
-  some-left : {name : List ℕ} {node : Schema} {more : SchemaFields} → FieldsStand levels s place to (named name node more) → place < to
+  pub some-left : {name : List ℕ} {node : Schema} {more : SchemaFields} → FieldsStand levels s place to (named name node more) → place < to
   some-left {name} {node} {more} stand = go (leb to place) refl
     where
       go : (b : Bool) → leb to place ≡ b → place < to

@@ -77,7 +77,7 @@ pieces-ended s from to h = rw (part-none s from to h)
 unfoldable pub pieceThen : Piece → Option (List Piece) → Option (List Piece)
 pieceThen piece rest = andThen rest λ more. some (piece ∷ more)
 
-pieces-cons : (tag : ℕ) (rest : List ℕ) (size : ℕ) → numberAt rest 0 2 ≡ size
+pub pieces-cons : (tag : ℕ) (rest : List ℕ) (size : ℕ) → numberAt rest 0 2 ≡ size
     → piecesOf (tag ∷ rest)
     ≡ given (leb 2 (length rest) && leb (2 + size) (length rest)) (pieceThen (record { tag = tag; body = part rest 2 (2 + size) }) (piecesOf (drop (2 + size) rest)))
 unfolding piecesOf piecesWithin pieceThen

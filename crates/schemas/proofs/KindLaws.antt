@@ -2,14 +2,13 @@
 use mathlib.Core.Bool.{true}
 use mathlib.Core.List.{List}
 use mathlib.Core.Path.{_≡_, refl, sym, ap, _∙_}
-use Prim.Native.Nat.{ℕ, _+_, _<_}
+use Prim.Native.Nat.{ℕ, _+_}
 use native.Mathlib.Omega.{arith}
 use borrow.Author.Tests.{eq-eqb, ne-eqb}
-use lib.ListN.{length}
-use Rattle.paper.specs.Schemas.{Column, Schema, leftoverOnly, column, list, fields, SchemaFields, columnCode}
+use Rattle.paper.specs.Schemas.{Schema, leftoverOnly, column, list, fields, SchemaFields, columnCode}
 use Rattle.paper.specs.Words.{at}
 use Rattle.schemas.proofs.StandingLaws.{ListStands, ObjectStands, NodeAt, leftoverAt, columnAt, listAt, fieldsAt, node-at}
-use Rattle.schemas.specs.Kinds.{kindOf, kindAt}
+use Rattle.schemas.specs.Kinds.{kindOf, kindAt, KindThere}
 use Rattle.schemas.specs.Positions.{frameEnd, Stands}
 use Rattle.schemas.specs.declared.readers.Kind.{Kind}
 use Rattle.schemas.specs.declared.readers.Kind.the-variants.{Leftover, Column as ColumnKind, List as ListKind, Fields}
@@ -56,8 +55,12 @@ module _ {levels : ℕ} {s : List ℕ} {place : ℕ} {node : Schema} (stands : S
   pub kind-is : kindAt s place ≡ kindOf node
   kind-is = kind-by (node-at stands)
 
-  pub kind-asks : (place < length s) × (at s place ≡ 0x10 → place + 3 < length s)
-  kind-asks = (omega (arith, stands .within), λ e. omega (arith, stands .within, code-by (node-at stands) e))
+  pub kind-there : KindThere s place
+  kind-there =
+      record {
+        tag-there = omega (arith, stands .within);
+        code-there = λ e. omega (arith, stands .within, code-by (node-at stands) e);
+      }
 
   module _ {k : Kind} (is : k ≡ kindAt s place) where
     told : {o : Kind} → k ≡ o → kindOf node ≡ o

@@ -9,3 +9,5 @@ pub mod StandingLaws
 pub mod FieldsStandLaws
 pub mod GoodLaws
 pub mod WalkLaws
+pub mod WrittenLaws
+pub mod BackLaws

@@ -1,8 +1,8 @@
 -- A node judged by its frame, then by its tag.
-use mathlib.Core.Bool.{Bool, true, false, _&&_}
+use mathlib.Core.Bool.{Bool, true, false}
 use mathlib.Core.List.{List}
 use mathlib.Core.Option.{Option, none, some}
-use mathlib.Core.Path.{_≡_, refl, sym, ap, _∙_}
+use mathlib.Core.Path.{_≡_, refl, sym, _∙_}
 use Prim.Native.Nat.{ℕ, zero, suc, _+_, _-_, _≤_, _<_}
 use native.Mathlib.Omega.{arith}
 use borrow.Author.Tests.{eq-eqb, ne-eqb, eqb-true, eqb-false}
@@ -12,7 +12,7 @@ use lib.Seq.{take-all}
 use Rattle.numbers.specs.Little.{numberAt}
 use Rattle.paper.specs.Framing.{Piece, onePiece}
 use Rattle.paper.specs.Limits.{mostLevels}
-use Rattle.paper.specs.Schemas.{Column, Schema, leftoverOnly, column, list, columnCode, columnOf, nodeTag, nodeBy, nodeOf, schemaOf}
+use Rattle.paper.specs.Schemas.{Column, leftoverOnly, column, list, columnCode, columnOf, nodeTag, nodeBy, nodeOf, schemaOf}
 use Rattle.paper.specs.Words.{at, part, given, andThen, isThere}
 use Rattle.paper.proofs.WordLaws.{there-then}
 use Rattle.schemas.proofs.FramingLaws.{length-part, part-cons, one-piece, one-not}
@@ -44,7 +44,7 @@ node-none levels s from to e = rw e (go (onePiece (part s from to)))
     go none = refl
     go (some piece) = refl
 
-node-step : (levels : ℕ) (piece : Piece) → (levels ≡ 0 → ⊥) → nodeOf levels piece ≡ nodeBy (nodeOf (levels - 1)) (nodeTag (piece .tag)) (piece .body)
+pub node-step : (levels : ℕ) (piece : Piece) → (levels ≡ 0 → ⊥) → nodeOf levels piece ≡ nodeBy (nodeOf (levels - 1)) (nodeTag (piece .tag)) (piece .body)
 unfolding nodeOf
 node-step zero piece h = absurd (h refl)
 node-step (suc levels) piece h = let e : suc levels - 1 ≡ levels = omega arith in rw e

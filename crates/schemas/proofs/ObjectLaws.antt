@@ -1,11 +1,11 @@
 -- The loop over an object's fields: up to a field its fields are good, and those from it on decide.
-use mathlib.Core.Bool.{Bool, true, false, not, _&&_, _||_}
+use mathlib.Core.Bool.{Bool, true, false, not, _&&_}
 use mathlib.Core.List.{List, [], _∷_, _++_}
 use mathlib.Core.Option.{Option, none, some}
-use mathlib.Core.Path.{_≡_, refl, sym, ap, _∙_}
-use Prim.Native.Nat.{ℕ, _+_, _-_, _≤_, _<_}
+use mathlib.Core.Path.{_≡_, refl, sym, _∙_}
+use Prim.Native.Nat.{ℕ, _+_, _≤_, _<_}
 use native.Mathlib.Omega.{arith}
-use borrow.Author.Tests.{le-leb, eq-eqb, ne-eqb, not-true, not-false}
+use borrow.Author.Tests.{le-leb, eq-eqb, ne-eqb, eqb-true, eqb-false, not-true, not-false}
 use lib.Dec.{leb, eqb}
 use lib.ListN.{length}
 use Rattle.order.specs.Before.{before}
@@ -58,21 +58,22 @@ rising-then s last place (behindField h k) (some node) (some columns) =
 
 -- ---- the whole object
 
-pub fields-none : (levels : ℕ) (s : List ℕ) (from to : ℕ) → from ≡ to → false ≡ isThere (objectIn levels s from to)
+object-none : (levels : ℕ) (s : List ℕ) (from to : ℕ) → from ≡ to → false ≡ isThere (objectIn levels s from to)
 unfolding objectIn nodeBy andThen fieldNodes given isThere
-fields-none levels s from to e = rw (pieces-ended s from to (omega arith))
+object-none levels s from to e = rw (pieces-ended s from to (omega arith))
 
 -- Up to a field the fields are good: those from it on decide.
 pub record FieldsSeen (levels : ℕ) (s : List ℕ) (from to last place : ℕ) : Type 0 where
+  pub begun : from ≤ place
   pub before-end : place ≤ to
   pub names : List (List ℕ)
   pub seen : NameBefore s last place names
-  pub whole-is : isThere (objectIn levels s from to) ≡ risingBehind names (columnsIn levels s place to)
+  pub whole-is : (from ≡ to → ⊥) → isThere (objectIn levels s from to) ≡ risingBehind names (columnsIn levels s place to)
 
-module _ (levels : ℕ) (s : List ℕ) (from to : ℕ) (ordered : from ≤ to) (within : to ≤ length s) (some-bytes : from ≡ to → ⊥) where
-  object-columns : isThere (objectIn levels s from to) ≡ risingBehind [] (columnsIn levels s from to)
+module _ (levels : ℕ) (s : List ℕ) (from to : ℕ) (ordered : from ≤ to) (within : to ≤ length s) where
+  object-columns : (from ≡ to → ⊥) → isThere (objectIn levels s from to) ≡ risingBehind [] (columnsIn levels s from to)
   unfolding objectIn columnsIn nodeBy risingBehind given andThen isThere pieceThen
-  object-columns = rw (pieces-step s from to within (omega arith)) (go (frameWithin s from to) (piecesOf (part s (frameEnd s from) to)))
+  object-columns some-bytes = rw (pieces-step s from to within (omega arith)) (go (frameWithin s from to) (piecesOf (part s (frameEnd s from) to)))
     where
       counted : (pieces : List Piece) → leb 1 (length pieces) ≡ true → (more : Option SchemaFields)
           → isThere (andThen more λ columns. given (leb 1 (length pieces) && rising (columnNames columns)) (some (fields columns)))
@@ -88,7 +89,7 @@ module _ (levels : ℕ) (s : List ℕ) (from to : ℕ) (ordered : from ≤ to) (
       go true (some pieces) = counted (pieceAt s from ∷ pieces) (le-leb 1 (length (pieceAt s from ∷ pieces)) (omega arith)) (fieldNodes (nodeOf levels) (pieceAt s from ∷ pieces))
 
   pub fields-start : FieldsSeen levels s from to from from
-  fields-start = record { before-end = ordered; names = []; seen = firstField refl; whole-is = object-columns }
+  fields-start = record { begun = omega arith; before-end = ordered; names = []; seen = firstField refl; whole-is = object-columns }
 
 -- ---- one field more
 
@@ -99,20 +100,27 @@ pub record FieldPassed (s : List ℕ) (last place : ℕ) : Type 0 where
   pub frame-in : frameEnd s place ≤ length s
 
 module _ {levels : ℕ} {s : List ℕ} {from to last place : ℕ} (seen : FieldsSeen levels s from to last place) where
-  pub fields-done : to ≤ place → true ≡ isThere (objectIn levels s from to)
+  pub fields-done : to ≤ place → not (eqb from to) ≡ isThere (objectIn levels s from to)
   unfolding risingBehind andThen columnNames isThere given rising
-  fields-done h = sym (seen .whole-is ∙ rw (columns-ended levels s place to h) (go (seen .seen)))
+  fields-done past = go (eqb from to) refl
     where
-      go : {names : List (List ℕ)} → NameBefore s last place names → isThere (given (rising (names ++ [])) (some noColumns)) ≡ true
-      go (firstField e) = refl
-      go (behindField h k) = refl
+      ended : {names : List (List ℕ)} → NameBefore s last place names → isThere (given (rising (names ++ [])) (some noColumns)) ≡ true
+      ended (firstField e) = refl
+      ended (behindField h k) = refl
+
+      go : (b : Bool) → eqb from to ≡ b → not b ≡ isThere (objectIn levels s from to)
+      go true e = object-none levels s from to (eqb-true from to e)
+      go false e = sym (seen .whole-is (eqb-false from to e) ∙ rw (columns-ended levels s place to past) (ended (seen .seen)))
 
   module _ (within : to ≤ length s) (more : place < to) (framed : Bool) (is : framed ≡ fieldWithin s place to) where
+    whole : isThere (objectIn levels s from to) ≡ risingBehind (seen .names) (columnsIn levels s place to)
+    whole = seen .whole-is (omega (arith, seen .begun))
+
     pub fields-cut : not framed ≡ true → false ≡ isThere (objectIn levels s from to)
     unfolding risingBehind andThen given isThere
     fields-cut e =
         let f : fieldWithin s place to ≡ false = sym is ∙ not-true framed e in
-        sym (seen .whole-is ∙ rw (columns-at levels s place to more within, f))
+        sym (whole ∙ rw (columns-at levels s place to more within, f))
 
     module _ (passed : not framed ≡ false) where
       here : FieldHere s place to
@@ -134,7 +142,7 @@ module _ {levels : ℕ} {s : List ℕ} {from to last place : ℕ} (seen : Fields
           ≡ isThere (nodeIn levels s (fieldNode s place) (frameEnd s place)) && (followsAt s last place && risingBehind (fieldName s place ∷ []) (columnsIn levels s (frameEnd s place) to))
       unfolding given
       left =
-          seen .whole-is ∙ rw (columns-at levels s place to more within, ← is, not-false framed passed)
+          whole ∙ rw (columns-at levels s place to more within, ← is, not-false framed passed)
           (rising-then s last place (seen .seen) (nodeIn levels s (fieldNode s place) (frameEnd s place)) (columnsIn levels s (frameEnd s place) to))
 
       module _ (follows : Bool) (also : follows ≡ followsAt s last place) where
@@ -156,8 +164,9 @@ module _ {levels : ℕ} {s : List ℕ} {from to last place : ℕ} (seen : Fields
           pub fields-next : not node ≡ false → FieldsSeen levels s from to place next
           fields-next e =
               record {
+                begun = omega (arith, seen .begun);
                 before-end = omega (arith, here .frame-in);
                 names = fieldName s place ∷ [];
                 seen = behindField (omega arith) (omega (arith, here .name-in, here .frame-in));
-                whole-is = left-node ∙ rw (not-false node e);
+                whole-is = λ h. left-node ∙ rw (not-false node e);
               }

@@ -1,7 +1,7 @@
--- What stands in a good schema: a node by its kind, an object's fields one after another.
+-- What stands in a good schema: a node by its kind, with what stands inside it.
 use mathlib.Core.Bool.{Bool, true, false, cond, _&&_}
 use mathlib.Core.List.{List, []}
-use mathlib.Core.Option.{Option, none, some, Option·some-injective}
+use mathlib.Core.Option.{Option, some}
 use mathlib.Core.Path.{_≡_, refl, sym, ap, _∙_}
 use Prim.Native.Nat.{ℕ, zero, suc, _+_, _-_, _≤_, _<_}
 use native.Mathlib.Omega.{arith}
@@ -11,7 +11,7 @@ use lib.ListN.{length}
 use Rattle.paper.specs.Framing.{Piece, piecesOf, onePiece}
 use Rattle.paper.specs.Limits.{mostLevels}
 use Rattle.paper.specs.Metadata.{rising}
-use Rattle.paper.specs.Schemas.{Column, Schema, leftoverOnly, column, list, fields, SchemaFields, noColumns, named, columnNames, columnCode, columnOf, NodeTag, leftoverTag, columnTag, listTag, fieldsTag, noNodeTag, nodeTag, fieldNodes, nodeBy, nodeOf, schemaOf}
+use Rattle.paper.specs.Schemas.{Column, Schema, leftoverOnly, column, list, fields, SchemaFields, columnNames, columnCode, columnOf, NodeTag, leftoverTag, columnTag, listTag, fieldsTag, noNodeTag, nodeTag, fieldNodes, nodeBy, nodeOf, schemaOf}
 use Rattle.paper.specs.Words.{at, part, given, andThen, isThere}
 use Rattle.paper.proofs.WordLaws.{never, and-both, given-some, then-some}
 use Rattle.schemas.proofs.FramingLaws.{length-part, part-cons, pieces-ended, one-piece, one-not}
@@ -20,7 +20,7 @@ use Rattle.schemas.specs.Positions.{frameEnd, pieceAt, nodeIn, columnsIn
 
 -- ---- a piece that is alone between two positions
 
-pub alone-is : (s : List ℕ) (from to : ℕ) → to ≤ length s → {piece : Piece} → onePiece (part s from to) ≡ some piece → (frameEnd s from ≡ to) × (piece ≡ pieceAt s from)
+alone-is : (s : List ℕ) (from to : ℕ) → to ≤ length s → {piece : Piece} → onePiece (part s from to) ≡ some piece → (frameEnd s from ≡ to) × (piece ≡ pieceAt s from)
 unfolding isThere
 alone-is s from to within {piece} e = go (eqb (frameEnd s from) to) refl
   where
@@ -188,11 +188,19 @@ module _ {levels : ℕ} {s : List ℕ} {place : ℕ} where
       go : {columns : SchemaFields} → NodeAt levels s place (fields columns) → ObjectStands levels s place columns
       go (fieldsAt here) = here
 
--- ---- a schema
+  -- One node at most stands at a position.
+  pub one-stands : {node other : Schema} → Stands levels s place node → Stands levels s place other → node ≡ other
+  one-stands stands also = let is = stands .is in let also-is = also .is in cc
+
+-- ---- a node that fills a part, and a schema
+
+pub node-stands : (levels : ℕ) (s : List ℕ) (from to : ℕ) (node : Schema) → to ≤ length s → nodeIn levels s from to ≡ some node
+    → Stands levels s from node × (frameEnd s from ≡ to)
+unfolding nodeIn
+node-stands levels s from to node within e =
+    let alone = then-some (onePiece (part s from to)) (nodeOf levels) e in
+    let fills = alone-is s from to within (alone .1) in
+    (record { within = omega (arith, fills .0); is = sym (ap (nodeOf levels) (fills .1)) ∙ alone .2 }, fills .0)
 
 pub schema-stands : (s : List ℕ) (node : Schema) → schemaOf s ≡ some node → Stands mostLevels s 0 node × (frameEnd s 0 ≡ length s)
-unfolding nodeIn
-schema-stands s node e =
-    let alone = then-some (onePiece (part s 0 (length s))) (nodeOf mostLevels) (schema-node s ∙ e) in
-    let fills = alone-is s 0 (length s) (omega arith) (alone .1) in
-    (record { within = omega (arith, fills .0); is = sym (ap (nodeOf mostLevels) (fills .1)) ∙ alone .2 }, fills .0)
+schema-stands s node e = node-stands mostLevels s 0 (length s) node (omega arith) (schema-node s ∙ e)

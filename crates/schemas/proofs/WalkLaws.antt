@@ -4,17 +4,17 @@ use mathlib.Core.Bool.{Bool, true, false, cond}
 use mathlib.Core.List.{List}
 use mathlib.Core.Logic.{_⊎_, inl, inr}
 use mathlib.Core.Option.{some}
-use mathlib.Core.Path.{_≡_, refl, sym, subst, _∙_}
+use mathlib.Core.Path.{_≡_, sym, subst, _∙_}
 use Prim.Native.Nat.{ℕ, _+_, _-_, _≤_, _<_}
 use native.Mathlib.Omega.{arith}
 use borrow.Author.Tests.{eq-eqb, ne-eqb}
 use lib.Dec.{eqb}
 use lib.ListN.{length}
 use Rattle.paper.specs.Limits.{mostLevels}
-use Rattle.paper.specs.Schemas.{Column, Schema, leftoverOnly, column, list, fields, SchemaFields, noColumns, named, schemaOf}
+use Rattle.paper.specs.Schemas.{Schema, leftoverOnly, column, list, fields, SchemaFields, noColumns, named, schemaOf}
 use Rattle.paper.specs.Words.{at}
 use Rattle.schemas.proofs.FieldsStandLaws.{FieldStands, field-stands, no-columns}
-use Rattle.schemas.proofs.StandingLaws.{LeftoverStands, leftover-stands, ColumnStands, column-stands, ListStands, list-stands, ObjectStands, object-stands, schema-stands}
+use Rattle.schemas.proofs.StandingLaws.{leftover-stands, column-stands, ListStands, list-stands, ObjectStands, object-stands, schema-stands}
 use Rattle.schemas.specs.Positions.{frameEnd, fieldNode, Stands, FieldsStand}
 use Rattle.schemas.specs.Walk.{frameNext, Frames, arrived, further}
 
@@ -72,6 +72,11 @@ module _ {s : List ℕ} where
       go (inl on) = past on h
       go (inr back) = frames-rise back
 
+  -- Where the end is not reached yet, the frames lead on.
+  pub frames-on : {place to : ℕ} → Frames s place to → place < to → Frames s (frameNext s place) to
+  frames-on arrived h = absurd (omega arith)
+  frames-on (further rest) h = rest
+
 -- ---- through a node, and through fields
 
 -- A run that goes on from a next frame that is known.
@@ -114,3 +119,19 @@ module _ (s : List ℕ) where
 pub schema-frames : (s : List ℕ) (node : Schema) → schemaOf s ≡ some node → Frames s 0 (length s)
 schema-frames s node e =
     let stands = schema-stands s node e in up-to s 0 (stands .1) (node-frames s node mostLevels 0 (stands .0))
+
+-- ---- what stands inside is led to as well
+
+module _ {s : List ℕ} {start levels place : ℕ} (run : Frames s start place) where
+  pub element-reached : {element : Schema} → ListStands levels s place element → Frames s start (place + 3)
+  element-reached here = frames-join run (from s place (place + 3) (inward s place (here .tagged) (omega arith) (omega arith)) arrived)
+
+  pub fields-reached : {columns : SchemaFields} → ObjectStands levels s place columns → Frames s start (place + 3)
+  fields-reached here = frames-join run (from s place (place + 3) (inward s place (here .tagged) (omega arith) (omega arith)) arrived)
+
+  module _ {to : ℕ} {name : List ℕ} {node : Schema} {more : SchemaFields} (here : FieldStands levels s place to name node more) where
+    pub node-reached : Frames s start (fieldNode s place)
+    node-reached = frames-join run (from s place (fieldNode s place) (next-field s place (here .tagged)) arrived)
+
+    pub next-reached : Frames s start (frameEnd s place)
+    next-reached = frames-join node-reached (up-to s (fieldNode s place) (here .fills) (node-frames s node levels (fieldNode s place) (here .inside)))

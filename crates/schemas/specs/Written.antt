@@ -5,7 +5,7 @@ use Prim.Native.Nat.{ℕ, _-_}
 use lib.Dec.{leb}
 use Rattle.paper.specs.Framing.{frame}
 use Rattle.paper.specs.Metadata.{rising}
-use Rattle.paper.specs.Schemas.{Column, Schema, leftoverOnly, column, list, fields, SchemaFields, noColumns, named, columnNames, columnCode}
+use Rattle.paper.specs.Schemas.{Schema, leftoverOnly, column, list, fields, SchemaFields, noColumns, named, columnNames, columnCode}
 
 unfoldable mutual
   pub schemaBytes : Schema → List ℕ

@@ -1,11 +1,10 @@
 // A lent schema judged, node by node.
-ghost use mathlib.Core.Bool.{_&&_};
 ghost use mathlib.Core.Path.{_≡_};
 ghost use Prim.Native.Nat.{_≤_};
 ghost use lib.ListN.{length};
 ghost use Rattle.paper.specs.Schemas.{columnOf, schemaOf};
 ghost use Rattle.paper.specs.Words.{part, isThere};
-ghost use Rattle.schemas.specs.Positions.{frameEnd, fieldNode, taggedWithin, fieldWithin, followsAt, nodeIn, objectIn};
+ghost use Rattle.schemas.specs.Positions.{fieldNode, taggedWithin, fieldWithin, followsAt, nodeIn, objectIn};
 use crate::readers::field_name;
 use crate::readers::field_node;
 use crate::readers::frame_end;
@@ -70,9 +69,6 @@ fn fields(levels: usize, s: &[u8], from: usize, to: usize) -> bool
     requires { ⌜ (from ≤ to) × (to ≤ length (now s)) ⌝ }
     ensures { λ r. ⌜ r ≡ isThere (objectIn levels (now (s .entry)) from to) ⌝ }
 {
-    if from == to {
-        return false;
-    }
     let mut last = from;
     let mut place = from;
     while place < to {
@@ -89,7 +85,7 @@ fn fields(levels: usize, s: &[u8], from: usize, to: usize) -> bool
         last = place;
         place = next;
     }
-    true
+    from != to
 }
 
 // One node fills a part of the schema, within so many levels.

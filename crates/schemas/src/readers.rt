@@ -2,11 +2,10 @@
 //
 // Whoever calls these has shown that what is read stands there.
 ghost use mathlib.Core.Path.{_≡_};
-ghost use Prim.Native.Nat.{_+_, _≤_, _<_};
+ghost use Prim.Native.Nat.{_≤_};
 ghost use lib.ListN.{length};
-ghost use Rattle.paper.specs.Words.{at};
 ghost use Rattle.schemas.specs.Positions.{frameEnd, fieldNode, fieldName};
-ghost use Rattle.schemas.specs.Kinds.{kindAt};
+ghost use Rattle.schemas.specs.Kinds.{kindAt, KindThere};
 ghost use Rattle.schemas.specs.Walk.{frameNext};
 
 // The kind of a node: leftover only, a column of a type code, a list, an object with fields.
@@ -19,7 +18,7 @@ pub enum Kind {
 
 // The kind of the node at a position.
 pub fn kind_at(schema: &[u8], place: usize) -> Kind
-    requires { ⌜ (place < length (now schema)) × (at (now schema) place ≡ 0x10 → place + 3 < length (now schema)) ⌝ }
+    requires { ⌜ KindThere (now schema) place ⌝ }
     ensures { λ r. ⌜ r ≡ kindAt (now (schema .entry)) place ⌝ }
 {
     let tag = schema[place];

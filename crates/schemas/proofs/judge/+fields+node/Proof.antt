@@ -7,7 +7,7 @@ use borrow.Fn.Kind.{PK}
 use borrow.Fn.Kinds.{In}
 use borrow.Fn.PlainCycle.{Measures, is, falls, and}
 use Rattle.schemas.proofs.NodeLaws.{node-none, node-short, node-unfilled, node-leftover, node-column, node-list, node-fields, node-other}
-use Rattle.schemas.proofs.ObjectLaws.{FieldsSeen, fields-none, fields-start, fields-cut, field-passed, fields-fall, fields-bad, fields-next, fields-done}
+use Rattle.schemas.proofs.ObjectLaws.{FieldsSeen, fields-start, fields-cut, field-passed, fields-fall, fields-bad, fields-next, fields-done}
 use Rattle.schemas.proofs.judge.fields.Reads as fields
 use Rattle.schemas.proofs.judge.fields.Kinds as fields-kinds
 use Rattle.schemas.proofs.judge.+fields+node.Lts-fields as fields-lts
@@ -48,27 +48,27 @@ pub +fields+node-spec : {M : Type 1} → statement M
     fields.Post
     fields-Inv-loop
     fields-μ-loop
-    (λ c. search (needs, fields-none)) (λ c. search (needs, fields-start)) (λ c κs. search needs) (λ c. search (needs, fields-cut))
+    (λ c. search (needs, fields-start)) (λ c κs. search needs) (λ c. search (needs, fields-cut))
     (λ c κs. let turn = c .before .before in
-    let here = field-passed (turn .before .loop .inv) (turn .before .before .before .before .pre .1 .1) (turn .loop-test .taken) _ (c .before .field-within .ensures) (c .if2 .left) in search needs)
+    let here = field-passed (turn .before .loop .inv) (turn .before .before .before .pre .1 .1) (turn .loop-test .taken) _ (c .before .field-within .ensures) (c .if1 .left) in search needs)
     (λ c. search (needs, fields-fall))
     (λ c κs. let passed = c .before .before in
     let turn = passed .before .before in
-    let here = field-passed (turn .before .loop .inv) (turn .before .before .before .before .pre .1 .1) (turn .loop-test .taken) _ (passed .before .field-within .ensures) (passed .if2 .left) in search needs)
+    let here = field-passed (turn .before .loop .inv) (turn .before .before .before .pre .1 .1) (turn .loop-test .taken) _ (passed .before .field-within .ensures) (passed .if1 .left) in search needs)
     (λ c κs. let passed = c .before .before .before in
     let turn = passed .before .before in
-    let here = field-passed (turn .before .loop .inv) (turn .before .before .before .before .pre .1 .1) (turn .loop-test .taken) _ (passed .before .field-within .ensures) (passed .if2 .left) in search needs)
+    let here = field-passed (turn .before .loop .inv) (turn .before .before .before .pre .1 .1) (turn .loop-test .taken) _ (passed .before .field-within .ensures) (passed .if1 .left) in search needs)
     (λ c κs. let passed = c .before .before .before .before in
     let turn = passed .before .before in
-    let pre = turn .before .before .before .before .pre in
-    let here = field-passed (turn .before .loop .inv) (pre .1 .1) (turn .loop-test .taken) _ (passed .before .field-within .ensures) (passed .if2 .left) in
+    let pre = turn .before .before .before .pre in
+    let here = field-passed (turn .before .loop .inv) (pre .1 .1) (turn .loop-test .taken) _ (passed .before .field-within .ensures) (passed .if1 .left) in
     (omega (arith, pre .0), search needs))
     (λ c. search (needs, fields-bad)) (λ c. search needs)
     (λ c. let framed = c .before .before .before in
     let follows = framed .before .before in
     let passed = follows .before in
     let turn = passed .before .before in
-    fields-next (turn .before .loop .inv) (turn .before .before .before .before .pre .1 .1) (turn .loop-test .taken) _ (passed .before .field-within .ensures) (passed .if2 .left) _ (follows .follows .ensures) (framed .before .if3 .left) _ _ (c .before .before .field-node .ensures) (framed .frame-end .ensures) _ (c .before .node .ensures) (c .if4 .left))
+    fields-next (turn .before .loop .inv) (turn .before .before .before .pre .1 .1) (turn .loop-test .taken) _ (passed .before .field-within .ensures) (passed .if1 .left) _ (follows .follows .ensures) (framed .before .if2 .left) _ _ (c .before .before .field-node .ensures) (framed .frame-end .ensures) _ (c .before .node .ensures) (c .if3 .left))
     (λ c. search (needs, fields-done)))
     λ t. node-lts.spec (read-reads.Asked, read-reads.Learnt, column-good-reads.Asked, column-good-reads.Learnt, below 1 node-kinds.ps μ-node node.Pre t, node.Post, below 1 fields-kinds.ps μ-fields fields.Pre t, fields.Post)
     (at 1 node-kinds.ps μ-node node.Pre t)
