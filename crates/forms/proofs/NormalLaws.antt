@@ -191,3 +191,18 @@ same-meaning metadata value metadata′ value′ bytes bytes′ n n′ e e′ d 
     let same : (normalForm (a .d) ≡ normalForm (b .d)) ↔ (a .d ≡ b .d) =
     same-normal mostLevels (a .d) (b .d) (accepted-writable metadata value n a bytes) (accepted-writable metadata′ value′ n′ b bytes′) in
     rw (a .written-is, b .written-is, first, second) at same
+
+-- A lent document that check accepts comes to what is written of its meaning: its normal form, or refusal 8.
+pub accepted-written : (metadata value : List ℕ) (d : Doc) → checkOutcome metadata value ≡ reached d → normaliseOutcome metadata value ≡ written d
+unfolding checkOutcome normaliseOutcome judged valueJudged require obtain
+accepted-written metadata value d e =
+    let first = require-reached _ (documentFits metadata value) _ e in
+    let second = obtain-reached _ (dictionaryOf metadata) _ (first .1) in
+    let third = obtain-reached _ (meaningOf mostLevels (second .0) value) _ (second .2) in
+    rw (first .0, second .1, third .1) (ap written (same-reached (third .2)))
+
+-- So documents that mean the same have the same outcome, refusal 8 too.
+pub same-outcome : (metadata value metadata′ value′ : List ℕ) (d d′ : Doc) → checkOutcome metadata value ≡ reached d
+    → checkOutcome metadata′ value′ ≡ reached d′ → d ≡ d′ → normaliseOutcome metadata value ≡ normaliseOutcome metadata′ value′
+same-outcome metadata value metadata′ value′ d d′ means means′ same =
+    accepted-written metadata value d means ∙ ap written same ∙ sym (accepted-written metadata′ value′ d′ means′)

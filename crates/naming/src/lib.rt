@@ -1,6 +1,7 @@
 // Normal metadata written: the names of chosen ids of lent metadata, in the order in which the ids are listed.
 use dictionary::Names;
-use ranking::NormalId;
+use dictionary::NormalId;
+use ranking::input_of;
 ghost use mathlib.Core.List.{[]};
 ghost use mathlib.Core.Path.{_≡_};
 ghost use Prim.Native.Nat.{_+_, _*_, _≤_, _<_, max};
@@ -17,7 +18,7 @@ fn name_of<'a>(metadata: &'a [u8], names: Names, chosen: &[u16], id: NormalId) -
     requires { ⌜ Opened (now metadata) names × (id .0 < length (now chosen)) × (getD (now chosen) (id .0) 0 < names .count) ⌝ }
     ensures { λ r. ⌜ now r ≡ getD (namesIn (now (metadata .entry))) (getD (now (chosen .entry)) (id .0) 0) [] ⌝ }
 {
-    dictionary::name(metadata, names, ranking::input_of(chosen, id).0)
+    dictionary::name(metadata, names, input_of(chosen, id))
 }
 
 // How long the names are together.

@@ -37,7 +37,7 @@ module _ (d : Doc) (value : List ℕ) (is : value ≡ normalForm d .value) (firs
   answer-large h = rw (large h) (record { answer-is = refl; metadata-is = kept first [] refl; value-is = kept second [] refl })
 
   -- the names are those used, and the size is that of their metadata
-  module _ (fits : length value ≤ mostNames) (names : Dictionary) (used : names ≡ namesUsed d) (size : ℕ) (told : size ≡ length (metadataBytes names)) where
+  module _ (fits : length value ≤ mostValue) (names : Dictionary) (used : names ≡ namesUsed d) (size : ℕ) (told : size ≡ length (metadataBytes names)) where
     metadata-is-normal : metadataBytes names ≡ normalForm d .metadata
     unfolding normalForm
     metadata-is-normal = ap metadataBytes used

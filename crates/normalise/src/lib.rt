@@ -9,8 +9,8 @@ ghost use Prim.Native.Nat.{_*_, _≤_};
 ghost use lib.ListN.{length, replicate};
 ghost use Rattle.heads.specs.Packing.{Readings};
 ghost use Rattle.naming.specs.Chosen.{chosenNames, Chosen};
-ghost use Rattle.paper.specs.Bounds.{mostNames, mostWalked};
-ghost use Rattle.paper.specs.Limits.{mostLevels};
+ghost use Rattle.paper.specs.Bounds.{mostWalked};
+ghost use Rattle.paper.specs.Limits.{mostLevels, mostValue};
 ghost use Rattle.paper.specs.Meaning.{Doc};
 ghost use Rattle.paper.specs.Metadata.{namesIn};
 ghost use Rattle.paper.specs.Normal.{namesUsed, normalForm};
@@ -113,7 +113,7 @@ fn with_room(
     metadata_out: &mut [u8],
     value_out: &mut [u8],
 ) -> DocumentAnswer
-    requires { ⌜ Readings (now readings) × Numbered (now metadata) names (now value) (now ranks) (now chosen) count × (length (now value) ≤ mostNames) ⌝ }
+    requires { ⌜ Readings (now readings) × Numbered (now metadata) names (now value) (now ranks) (now chosen) count × (length (now value) ≤ mostValue) ⌝ }
     ensures { λ r. ⌜ ((d : Doc) → meaningOf mostLevels (namesIn (now (metadata .entry))) (now (value .entry)) ≡ some d → Answered (written d) (now («metadata_out» .entry)) (now («metadata_out» .exit)) (now («value_out» .entry)) (now («value_out» .exit)) r) ⌝ }
 {
     if stands(value) {

@@ -27,11 +27,14 @@ use Rattle.paper.specs.declared.BoxAnswer.the-variants as box
 
 -- ---- what an answer can carry
 
--- Values of something done, found or read; nothing, where it is absent; a refusal, 1 to 8; the lengths needed, with 9.
 pub data Carried : Type 0 where
+  -- good, done, found or read, with its values
   done : (values : List ℕ) → Carried
+  -- nothing of the kind is there
   absent : Carried
+  -- refusals 1 to 8
   refusal : Refusal → Carried
+  -- refusal 9, with the lengths needed
   short : (needed : List ℕ) → Carried
 
 -- The number of 01's table.
@@ -61,6 +64,7 @@ abbrev pub checkedCarries : Checked → Carried
 checkedCarries checked.Good = done []
 checkedCarries (checked.Refused r) = refusal r
 
+-- Its number alone, for the sample lots.
 abbrev pub checkedNumber : Checked → ℕ
 checkedNumber answer = numberOf (checkedCarries answer)
 

@@ -13,7 +13,9 @@ ghost use Rattle.containers.specs.Layouts.{Container};
 ghost use Rattle.paths.specs.Places.{placeOf, positionIn};
 use containers::child_extent;
 use containers::layout_of;
+use dictionary::InputId;
 use dictionary::Names;
+use dictionary::input_id_at;
 use heads::Extent;
 use order::Order;
 
@@ -24,9 +26,9 @@ pub enum Place {
 }
 
 // The name of an id is the given one.
-fn is_name(metadata: &[u8], names: Names, id: usize, name: &[u8]) -> bool
-    requires { ⌜ Opened (now metadata) names × (id < names .count) ⌝ }
-    ensures { λ r. ⌜ r ≡ same (getD (namesIn (now (metadata .entry))) id []) (now (name .entry)) ⌝ }
+fn is_name(metadata: &[u8], names: Names, id: InputId, name: &[u8]) -> bool
+    requires { ⌜ Opened (now metadata) names × (id .0 < names .count) ⌝ }
+    ensures { λ r. ⌜ r ≡ same (getD (namesIn (now (metadata .entry))) (id .0) []) (now (name .entry)) ⌝ }
 {
     let order = order::compare(dictionary::name(metadata, names, id), name);
     match order {
@@ -51,7 +53,7 @@ fn position_of(
     let mut place = 0;
     let mut i = 0;
     while i < count {
-        let id = numbers::read(ids, place, width);
+        let id = input_id_at(ids, place, width);
         if is_name(metadata, names, id, name) {
             return i;
         }

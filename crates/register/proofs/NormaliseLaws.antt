@@ -1,9 +1,9 @@
 -- Normalise: a lawful document comes to what is written of it, another is refused and leaves both buffers as they were;
 -- and the lengths have room in a word.
 use mathlib.Core.Bool.{Bool, true, false, cond, _&&_}
-use mathlib.Core.List.{List, []}
+use mathlib.Core.List.{List}
 use mathlib.Core.Option.{some}
-use mathlib.Core.Path.{_≡_, refl, sym, ap, subst, _∙_}
+use mathlib.Core.Path.{_≡_, refl, sym, ap, _∙_}
 use Prim.Native.Nat.{ℕ, _^_, _≤_, _<_}
 use native.Mathlib.Omega.{arith}
 use borrow.Author.Tests.{lt-ltb}
@@ -14,8 +14,6 @@ use Rattle.documents.specs.Judged.{documentOf}
 use Rattle.documents.specs.declared.Document.the-variants.{Lawful, Refused}
 use Rattle.documents.specs.declared.Document.{Document}
 use Rattle.normalise.specs.Answered.{Answered, Lent}
-use Rattle.numbers.specs.Little.{putAt}
-use Rattle.paper.specs.Bounds.{mostNames}
 use Rattle.paper.specs.Limits.{mostLevels, mostMetadata, mostValue}
 use Rattle.paper.specs.Meaning.{Doc}
 use Rattle.paper.specs.Metadata.{namesIn}
@@ -68,7 +66,7 @@ module _ (m v : List ℕ) (bytes : (i : ℕ) → getD m i 0 < 256) where
       let own-value : length (n .value) ≡ length (valueBytes (namesUsed (a .d)) (a .d)) = ap (λ (k : normal.Document). length (k .value)) (sym (a .written-is)) in
       let shorter : length (metadataBytes (namesUsed (a .d))) ≤ length m = normal-shorter m v n a bytes in
       let fit : length m ≤ mostMetadata = a .metadata-fits in
-      let fit-value : length (valueBytes (namesUsed (a .d)) (a .d)) ≤ mostNames = a .written-fits in
+      let fit-value : length (valueBytes (namesUsed (a .d)) (a .d)) ≤ mostValue = a .written-fits in
       let one : length (n .metadata) < 2 ^ 24 = omega arith in
       let two : length (n .value) < 2 ^ 24 = omega arith in
       rw (lt-ltb (length (n .metadata)) (2 ^ 24) one, lt-ltb (length (n .value)) (2 ^ 24) two)

@@ -65,7 +65,7 @@ pub fn object_head(
 {
     let offset_width = numbers::width_of(end - start);
     let offsets = write_offsets(readings, count, offset_width, out, start, end);
-    let id_width = numbers::width_of(largest_of(ranks, ids, id, count));
+    let id_width = numbers::width_of(largest_of(ranks, ids, id, count).0);
     let named = write_ids(ranks, ids, id, count, id_width, out, offsets);
     opened(
         2 + 4 * (offset_width - 1) + 16 * (id_width - 1),

@@ -9,15 +9,6 @@ use Rattle.boxes.proofs.SideLaws.{lawful-some, object-asks, object-box}
 use Rattle.boxes.proofs.lot_box.Statement.{statement}
 use Rattle.boxes.proofs.lot_box.Tie as tie
 
-shared-slice-read-reading : tie.Need-shared-slice-read-reading
-shared-slice-read-reading c = search (needs, lawful-some)
-
-reading-requires : tie.Need-reading-requires
-reading-requires c κs = search needs
-
-enum-known-says : tie.Need-enum-known-says
-enum-known-says c = search needs
-
 -- an object's tag is 3, and none of the others
 other-tag : (_≡_ {A = ℕ} 3 0) ⊎ ((_≡_ {A = ℕ} 3 1) ⊎ ((_≡_ {A = ℕ} 3 2) ⊎ ((_≡_ {A = ℕ} 3 4) ⊎ (_≡_ {A = ℕ} 3 5)))) → ⊥
 other-tag (inl e) = omega arith
@@ -29,9 +20,6 @@ other-tag (inr (inr (inr (inr e)))) = omega arith
 returns : tie.Need-returns
 returns c = no-object _ (c .before .reading .ensures) (λ k i w e. other-tag (rw e at (c .match .keys2))) _ _
 
-box-in-requires : tie.Need-box-in-requires
-box-in-requires c κs = search (needs, object-asks)
-
 returns-2 : tie.Need-returns-2
 returns-2 c =
     let read = c .before .before .before .before in
@@ -41,10 +29,5 @@ returns-2 c =
 pub lot-box-spec : {M : Type 1} → statement M
 lot-box-spec =
     tie.close
-    (tie.spec
-    shared-slice-read-reading
-    reading-requires
-    enum-known-says
-    returns
-    box-in-requires
-    returns-2)
+    (tie.spec (λ c. search (needs, lawful-some))
+    (λ c κs. search needs) (λ c. search needs) returns (λ c κs. search (needs, object-asks)) returns-2)

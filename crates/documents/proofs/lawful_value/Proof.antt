@@ -7,27 +7,9 @@ use Rattle.paper.specs.Limits.{mostLevels}
 use Rattle.documents.proofs.lawful_value.Statement.{statement}
 use Rattle.documents.proofs.lawful_value.Tie as tie
 
-slice-aggregate-extent-of : tie.Need-slice-aggregate-extent-of
-slice-aggregate-extent-of c = search needs
-
 extent-of-requires : tie.Need-extent-of-requires
 unfolding readings
 extent-of-requires c κs = readings-all
-
-enum-known-size : tie.Need-enum-known-size
-enum-known-size c = search needs
-
-enum-told : tie.Need-enum-told
-enum-told c = search needs
-
-returns : tie.Need-returns
-returns c = search (needs, no-extent)
-
-returns-2 : tie.Need-returns-2
-returns-2 c = search (needs, other-extent)
-
-slice-aggregate-value : tie.Need-slice-aggregate-value
-slice-aggregate-value c = search needs
 
 value-requires : tie.Need-value-requires
 unfolding readings
@@ -39,13 +21,6 @@ returns-3 c = c .value .ensures
 pub lawful-value-spec : {M : Type 1} → statement M
 lawful-value-spec =
     tie.close
-    (tie.spec
-    slice-aggregate-extent-of
-    extent-of-requires
-    enum-known-size
-    enum-told
-    returns
-    returns-2
-    slice-aggregate-value
-    value-requires
-    returns-3)
+    (tie.spec (λ c. search needs) extent-of-requires
+    (λ c. search needs) (λ c. search needs) (λ c. search (needs, no-extent)) (λ c. search (needs, other-extent))
+    (λ c. search needs) value-requires returns-3)

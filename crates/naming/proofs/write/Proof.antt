@@ -5,35 +5,11 @@ use Rattle.naming.proofs.SizeLaws.{size-fits, fitting, header-room, cou
 use Rattle.naming.proofs.write.Statement.{statement}
 use Rattle.naming.proofs.write.Tie as tie
 
-total-of-requires : tie.Need-total-of-requires
-total-of-requires c κs = search needs
-
-offset-size-requires : tie.Need-offset-size-requires
-offset-size-requires c κs = search needs
-
-add-offsets : tie.Need-add-offsets
-add-offsets c = search needs
-
-add-start : tie.Need-add-start
-add-start c = search needs
-
 mul-start : tie.Need-mul-start
 mul-start c = let fits = size-fits _ _ (c .before .before .before .before .before .pre .0 .few) (c .offset-size .ensures .2) in search needs
 
 add-start-2 : tie.Need-add-start-2
 add-start-2 c = let fits = size-fits _ _ (c .before .before .before .before .before .pre .0 .few) (c .offset-size .ensures .2) in search needs
-
-sub-out : tie.Need-sub-out
-sub-out c = search needs
-
-mul-out : tie.Need-mul-out
-mul-out c = search needs
-
-add-out : tie.Need-add-out
-add-out c = search needs
-
-cast-out : tie.Need-cast-out
-cast-out c = search needs
 
 slice-write-out : tie.Need-slice-write-out
 slice-write-out c =
@@ -88,20 +64,7 @@ returns c =
 pub write-spec : {M : Type 1} → statement M
 write-spec =
     tie.close
-    (tie.spec
-    total-of-requires
-    offset-size-requires
-    add-offsets
-    add-start
-    mul-start
+    (tie.spec (λ c κs. search needs) (λ c κs. search needs) (λ c. search needs) (λ c. search needs) mul-start
     add-start-2
-    sub-out
-    mul-out
-    add-out
-    cast-out
-    slice-write-out
-    write-requires
-    write-offsets-requires
-    write-names-requires
-    same-length
-    returns)
+    (λ c. search needs) (λ c. search needs) (λ c. search needs) (λ c. search needs) slice-write-out write-requires
+    write-offsets-requires write-names-requires same-length returns)

@@ -7,26 +7,11 @@ use Rattle.normalise.proofs.hand_out.Tie as tie
 returns : tie.Need-returns
 returns c = λ d used is. answer-large d _ is _ _ (c .if1 .taken)
 
-size-requires : tie.Need-size-requires
-size-requires c κs = search needs
-
 returns-2 : tie.Need-returns-2
 returns-2 c = λ d used is. answer-metadata-short d _ is _ _ (search needs) _ used _ (c .before .size .ensures) (c .if2 .taken)
 
 returns-3 : tie.Need-returns-3
 returns-3 c = λ d used is. answer-value-short d _ is _ _ (search needs) _ used _ (c .before .before .size .ensures) (c .if3 .taken)
-
-write-requires : tie.Need-write-requires
-write-requires c κs = search needs
-
-put-requires : tie.Need-put-requires
-put-requires c κs = search needs
-
-same-length : tie.Need-same-length
-same-length c = search needs
-
-same-length-2 : tie.Need-same-length-2
-same-length-2 c = search needs
 
 returns-4 : tie.Need-returns-4
 returns-4 c = λ d used is. answer-done d _ is _ _ (search needs) _ used _ (search needs) (search needs) (search needs) _ _ (search needs) (search needs)
@@ -34,13 +19,6 @@ returns-4 c = λ d used is. answer-done d _ is _ _ (search needs) _ used _ (sear
 pub hand-out-spec : {M : Type 1} → statement M
 hand-out-spec =
     tie.close
-    (tie.spec
-    returns
-    size-requires
-    returns-2
-    returns-3
-    write-requires
-    put-requires
-    same-length
-    same-length-2
-    returns-4)
+    (tie.spec returns
+    (λ c κs. search needs) returns-2 returns-3
+    (λ c κs. search needs) (λ c κs. search needs) (λ c. search needs) (λ c. search needs) returns-4)

@@ -18,34 +18,11 @@ part-hand-out-start c =
     let inside = write-starts (c .before .before .before .before .before .before .before .before .before .before .before .before .before .pre .1) (c .before .before .before .value .ensures) in
     search needs
 
-part-hand-out-end : tie.Need-part-hand-out-end
-part-hand-out-end c = search needs
-
-hand-out-requires : tie.Need-hand-out-requires
-hand-out-requires c κs = search needs
-
-same-length : tie.Need-same-length
-same-length c = search needs
-
-same-length-2 : tie.Need-same-length-2
-same-length-2 c = search needs
-
-same-length-3 : tie.Need-same-length-3
-same-length-3 c = search needs
-
 returns : tie.Need-returns
 returns c = write-answers (c .before .before .before .before .before .before .before .before .before .before .before .before .before .before .before .before .before .before .before .before .before .pre .1) (c .before .before .before .before .before .before .before .before .before .before .before .value .ensures) (c .before .before .before .before .hand-out .ensures)
 
 pub write-out-spec : {M : Type 1} → statement M
 write-out-spec =
     tie.close
-    (tie.spec
-    value-requires
-    sub-hand-out
-    part-hand-out-start
-    part-hand-out-end
-    hand-out-requires
-    same-length
-    same-length-2
-    same-length-3
-    returns)
+    (tie.spec value-requires sub-hand-out part-hand-out-start
+    (λ c. search needs) (λ c κs. search needs) (λ c. search needs) (λ c. search needs) (λ c. search needs) returns)

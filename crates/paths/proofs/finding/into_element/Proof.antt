@@ -5,67 +5,15 @@ use Rattle.paths.proofs.StepLaws.{element-of, element-fixed, element-pr
 use Rattle.paths.proofs.finding.into_element.Statement.{statement}
 use Rattle.paths.proofs.finding.into_element.Tie as tie
 
-shared-slice-read-reading : tie.Need-shared-slice-read-reading
-shared-slice-read-reading c = search (needs, lawful-some)
-
-reading-requires : tie.Need-reading-requires
-reading-requires c κs = search needs
-
-enum-told : tie.Need-enum-told
-enum-told c = search needs
-
-enum-told-2 : tie.Need-enum-told-2
-enum-told-2 c = search needs
-
-enum-told-3 : tie.Need-enum-told-3
-enum-told-3 c = search needs
-
-enum-told-4 : tie.Need-enum-told-4
-enum-told-4 c = search needs
-
-enum-known-says : tie.Need-enum-known-says
-enum-known-says c = search needs
-
 in-array-requires : tie.Need-in-array-requires
 in-array-requires c κs = array-asks (c .before .before .before .before .before .before .before .pre .1) _ (c .before .before .before .reading .ensures) _ _ (c .before .says .given .1)
-
-enum-told-5 : tie.Need-enum-told-5
-enum-told-5 c = search needs
-
-returns : tie.Need-returns
-returns c = search (needs, element-fixed)
-
-returns-2 : tie.Need-returns-2
-returns-2 c = search (needs, element-prefixed)
-
-returns-3 : tie.Need-returns-3
-returns-3 c = search (needs, element-short)
-
-returns-4 : tie.Need-returns-4
-returns-4 c = search (needs, element-object)
-
-returns-5 : tie.Need-returns-5
-returns-5 c = search (needs, element-of)
-
-returns-6 : tie.Need-returns-6
-returns-6 c = search (needs, element-nothing)
 
 pub into-element-spec : {M : Type 1} → statement M
 into-element-spec =
     tie.close
-    (tie.spec
-    shared-slice-read-reading
-    reading-requires
-    enum-told
-    enum-told-2
-    enum-told-3
-    enum-told-4
-    enum-known-says
-    in-array-requires
-    enum-told-5
-    returns
-    returns-2
-    returns-3
-    returns-4
-    returns-5
-    returns-6)
+    (tie.spec (λ c. search (needs, lawful-some))
+    (λ c κs. search needs) (λ c. search needs) (λ c. search needs) (λ c. search needs) (λ c. search needs)
+    (λ c. search needs) in-array-requires
+    (λ c. search needs) (λ c. search (needs, element-fixed)) (λ c. search (needs, element-prefixed))
+    (λ c. search (needs, element-short)) (λ c. search (needs, element-object)) (λ c. search (needs, element-of))
+    (λ c. search (needs, element-nothing)))

@@ -17,42 +17,10 @@ abbrev μ-loop : tie.MeasureT-loop
 loop-holds : tie.Need-loop-holds Inv-loop μ-loop
 loop-holds c = position-start _ _ _ _ _
 
-read-requires : tie.Need-read-requires Inv-loop μ-loop
-read-requires c κs = search (needs, standing-there)
-
-is-name-requires : tie.Need-is-name-requires Inv-loop μ-loop
-is-name-requires c κs = search (needs, id-below, opened-count)
-
-returns : tie.Need-returns Inv-loop μ-loop
-returns c = search (needs, position-here)
-
-add-place : tie.Need-add-place Inv-loop μ-loop
-add-place c = search (needs, standing-fits)
-
-add-i : tie.Need-add-i Inv-loop μ-loop
-add-i c = search needs
-
-loop-less : tie.Need-loop-less Inv-loop μ-loop
-loop-less c = search needs
-
-loop-again : tie.Need-loop-again Inv-loop μ-loop
-loop-again c = search (needs, position-next)
-
-returns-2 : tie.Need-returns-2 Inv-loop μ-loop
-returns-2 c = search (needs, position-none)
-
 pub position-of-spec : {M : Type 1} → statement M
 position-of-spec =
     tie.close
-    (tie.spec
-    Inv-loop
-    μ-loop
-    loop-holds
-    read-requires
-    is-name-requires
-    returns
-    add-place
-    add-i
-    loop-less
-    loop-again
-    returns-2)
+    (tie.spec Inv-loop μ-loop loop-holds (λ c κs. search (needs, standing-there))
+    (λ c κs. search (needs, id-below, opened-count)) (λ c. search (needs, position-here))
+    (λ c. search (needs, standing-fits))
+    (λ c. search needs) (λ c. search needs) (λ c. search (needs, position-next)) (λ c. search (needs, position-none)))

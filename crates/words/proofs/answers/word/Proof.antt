@@ -1,7 +1,6 @@
 -- `word`: the parts lie one above another, so that their sum fits.
 use native.Mathlib.Omega.{arith}
 use borrow.Author.Needs.{needs}
-use Rattle.words.specs.Boundary.{word}
 use Rattle.words.proofs.BoundaryLaws.{flag, flag-small}
 use Rattle.words.proofs.answers.word.Statement.{statement}
 use Rattle.words.proofs.answers.word.Tie as tie

@@ -7,7 +7,7 @@ use Rattle.writing.proofs.ids.largest_of.Statement.{statement}
 use Rattle.writing.proofs.ids.largest_of.Tie as tie
 
 abbrev Inv-loop : tie.InvT-loop
-Inv-loop ranks ids id count most₀ place₀ i₀ most place i = LargestSeen ranks ids id count place i most
+Inv-loop ranks ids id count most₀ place₀ i₀ most place i = LargestSeen ranks ids id count place i (most .0)
 
 abbrev μ-loop : tie.MeasureT-loop
 μ-loop ranks ids id count most₀ place₀ i₀ most place i = count - i
@@ -15,8 +15,8 @@ abbrev μ-loop : tie.MeasureT-loop
 loop-holds : tie.Need-loop-holds Inv-loop μ-loop
 loop-holds c = largest-start _ _ _ _
 
-read-requires : tie.Need-read-requires Inv-loop μ-loop
-read-requires c κs = search (needs, standing-there)
+input-id-at-requires : tie.Need-input-id-at-requires Inv-loop μ-loop
+input-id-at-requires c κs = search (needs, standing-there)
 
 normal-of-requires : tie.Need-normal-of-requires Inv-loop μ-loop
 normal-of-requires c κs = search (needs, id-inside)
@@ -46,7 +46,7 @@ largest-of-spec =
     Inv-loop
     μ-loop
     loop-holds
-    read-requires
+    input-id-at-requires
     normal-of-requires
     larger-requires
     add-place

@@ -21,14 +21,14 @@ sub-start c = search needs
 loop-holds : tie.Need-loop-holds Inv-loop μ-loop
 loop-holds c = search (needs, ids-start)
 
-read-requires : tie.Need-read-requires Inv-loop μ-loop
-read-requires c κs = search (needs, standing-there)
+input-id-at-requires : tie.Need-input-id-at-requires Inv-loop μ-loop
+input-id-at-requires c κs = search (needs, standing-there)
 
 normal-of-requires : tie.Need-normal-of-requires Inv-loop μ-loop
 normal-of-requires c κs = search (needs, id-inside)
 
-write-requires : tie.Need-write-requires Inv-loop μ-loop
-write-requires c κs = search (needs, to-there)
+write-id-requires : tie.Need-write-id-requires Inv-loop μ-loop
+write-id-requires c κs = search (needs, to-there)
 
 add-to : tie.Need-add-to Inv-loop μ-loop
 add-to c = search (needs, to-fits)
@@ -48,8 +48,8 @@ loop-again c =
     let turn = normal .before .before in
     let loop = turn .before in
     let pre = loop .before .before .before .before .pre in
-    ids-next (loop .loop .inv) (pre .0) (pre .1) (pre .8) (turn .loop-test .taken) _ (normal .before .read .ensures .0) _ (normal .normal-of .ensures)
-    (c .before .before .write .ensures)
+    ids-next (loop .loop .inv) (pre .0) (pre .1) (pre .8) (turn .loop-test .taken) _ (normal .before .input-id-at .ensures .0) _ (normal .normal-of .ensures)
+    (c .before .before .write-id .ensures)
 
 same-length : tie.Need-same-length Inv-loop μ-loop
 same-length c = search needs
@@ -66,9 +66,9 @@ write-ids-spec =
     mul-start
     sub-start
     loop-holds
-    read-requires
+    input-id-at-requires
     normal-of-requires
-    write-requires
+    write-id-requires
     add-to
     add-place
     add-i

@@ -1,0 +1,176 @@
+// Lots read and answered, an operation each.
+use crate::reading;
+use crate::saying;
+use order::Order;
+use paper::BoxAnswer;
+use paper::CellAnswer;
+use paper::Checked;
+use paper::DocumentAnswer;
+use paper::Found;
+
+// A document: good, or the number of the refusal.
+fn check(metadata: &[u8], value: &[u8]) {
+    let answer = register::check(metadata, value);
+    match answer {
+        Checked::Good => saying::say(b": good"),
+        Checked::Refused(refusal) => saying::refused(refusal),
+    }
+}
+
+// A path in a document: where it leads, or that it leads nowhere.
+fn find(metadata: &[u8], value: &[u8], path: &[u8]) {
+    let answer = register::find(metadata, value, path);
+    match answer {
+        Found::At { start, length } => saying::two(b": start ", start, b", length ", length),
+        Found::Absent => saying::say(b": absent"),
+        Found::Refused(refusal) => saying::refused(refusal),
+    }
+}
+
+// Bytes that were written, against those that are given.
+fn as_given(written: &[u8], given: &[u8]) {
+    let order = order::compare(written, given);
+    match order {
+        Order::Less => saying::say(b", other bytes"),
+        Order::Equal => saying::say(b", as given"),
+        Order::Greater => saying::say(b", other bytes"),
+    }
+}
+
+// A document normalised into two buffers: the lengths written or needed, and whether the buffers then hold what is given.
+fn normalise_into(
+    metadata: &[u8],
+    value: &[u8],
+    metadata_out: &mut [u8],
+    value_out: &mut [u8],
+    metadata_given: &[u8],
+    value_given: &[u8],
+) {
+    let answer = register::normalise(metadata, value, metadata_out, value_out);
+    match answer {
+        DocumentAnswer::Done {
+            metadata: first,
+            value: second,
+        } => {
+            saying::two(b": metadata ", first, b", value ", second);
+            as_given(metadata_out, metadata_given);
+            as_given(value_out, value_given);
+        }
+        DocumentAnswer::Short {
+            metadata: first,
+            value: second,
+        } => saying::two(b": 9, metadata needs ", first, b" and value ", second),
+        DocumentAnswer::Refused(refusal) => saying::refused(refusal),
+    }
+}
+
+// The lengths of the two buffers are given, a byte each.
+fn normalise(
+    metadata: &[u8],
+    value: &[u8],
+    rooms: &[u8],
+    metadata_given: &[u8],
+    value_given: &[u8],
+) {
+    let mut metadata_out = [0u8; 256];
+    let mut value_out = [0u8; 256];
+    let m = reading::room(rooms, 0, &metadata_out);
+    let v = reading::room(rooms, 1, &value_out);
+    normalise_into(
+        metadata,
+        value,
+        &mut metadata_out[..m],
+        &mut value_out[..v],
+        metadata_given,
+        value_given,
+    );
+}
+
+// One typed cell: its type code, and its bytes.
+fn cell(code: &[u8], bytes: &[u8]) {
+    if code.len() == 0 {
+        return saying::say(b": no code");
+    }
+    let answer = register::cell(code[0], bytes);
+    match answer {
+        CellAnswer::Read(read) => saying::cell(read),
+        CellAnswer::Refused(refusal) => saying::refused(refusal),
+    }
+}
+
+// A document's box.
+fn lot_box(metadata: &[u8], value: &[u8]) {
+    let answer = register::lot_box(metadata, value);
+    match answer {
+        BoxAnswer::Read(_) => saying::say(b": a box"),
+        BoxAnswer::Absent => saying::say(b": no box"),
+        BoxAnswer::Refused(refusal) => saying::refused(refusal),
+    }
+}
+
+// The operation that a lot's line begins with, on the line's other words.
+fn answer(line: &[u8], a: &[u8], b: &[u8], c: &[u8], d: &[u8], e: &[u8]) {
+    if reading::begins(line, b"check") {
+        return check(a, b);
+    }
+    if reading::begins(line, b"find") {
+        return find(a, b, c);
+    }
+    if reading::begins(line, b"normalise") {
+        return normalise(a, b, c, d, e);
+    }
+    if reading::begins(line, b"cell") {
+        return cell(a, b);
+    }
+    if reading::begins(line, b"box") {
+        return lot_box(a, b);
+    }
+    saying::say(b": no such operation")
+}
+
+// Reads a lot's words, at most five, and answers.
+fn answer_words(line: &[u8]) {
+    let mut a = [0u8; 256];
+    let mut b = [0u8; 256];
+    let mut c = [0u8; 256];
+    let mut d = [0u8; 256];
+    let mut e = [0u8; 256];
+    let a_size = reading::word(line, 1, &mut a);
+    let b_size = reading::word(line, 2, &mut b);
+    let c_size = reading::word(line, 3, &mut c);
+    let d_size = reading::word(line, 4, &mut d);
+    let e_size = reading::word(line, 5, &mut e);
+    answer(
+        line,
+        &a[..a_size],
+        &b[..b_size],
+        &c[..c_size],
+        &d[..d_size],
+        &e[..e_size],
+    );
+}
+
+// A heading, or a lot: its title and its answer.
+fn answer_line(line: &[u8]) {
+    let bar = reading::upto(line, 0, b'|');
+    if bar < line.len() {
+        saying::say(b" ");
+        saying::say(&line[bar + 1..]);
+        answer_words(&line[..bar]);
+    } else {
+        saying::say(line);
+    }
+    saying::say(b"\n");
+}
+
+pub fn answer_all(text: &[u8]) {
+    let mut start = 0;
+    while start < text.len() {
+        let end = reading::upto(text, start, b'\n');
+        answer_line(&text[start..end]);
+        if end == text.len() {
+            return;
+        }
+        start = end + 1;
+    }
+}
