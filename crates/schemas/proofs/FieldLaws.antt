@@ -13,7 +13,8 @@ use Rattle.paper.specs.Schemas.{Schema, SchemaFields, noColumns, named, fieldPa
 use Rattle.paper.specs.Words.{at, part, given, andThen}
 use Rattle.schemas.proofs.FrameLaws.{tagged-ends}
 use Rattle.schemas.proofs.FramingLaws.{pieceThen, pieces-ended, pieces-step}
-use Rattle.schemas.specs.Positions.{frameEnd, pieceAt, fieldNode, fieldName, frameWithin, taggedWithin, fieldWithin, nodeIn, columnsIn}
+use Rattle.schemas.specs.Frames.{frameEnd, pieceAt, frameWithin, taggedWithin}
+use Rattle.schemas.specs.Positions.{fieldNode, fieldName, fieldWithin, nodeIn, columnsIn}
 
 -- ---- a field's parts
 

@@ -8,15 +8,17 @@ use Prim.Native.Nat.{ℕ, _+_, _≤_, _<_}
 use native.Mathlib.Omega.{arith}
 use borrow.Author.Tests.{leb-true, leb-false}
 use lib.Dec.{leb}
+use lib.ListN.{length}
 use Rattle.paper.specs.Metadata.{rising}
 use Rattle.paper.specs.Schemas.{Schema, SchemaFields, noColumns, named, columnNames}
 use Rattle.paper.specs.Words.{at, andThen}
 use Rattle.paper.proofs.WordLaws.{given-some, then-some}
 use Rattle.names.proofs.RisingLaws.{rising-more}
 use Rattle.schemas.proofs.FieldLaws.{fieldThen, columns-at, columns-ended}
-use Rattle.schemas.proofs.FrameLaws.{FieldHere, field-here}
+use Rattle.schemas.proofs.FieldFrameLaws.{FieldHere, field-here}
 use Rattle.schemas.proofs.StandingLaws.{node-stands}
-use Rattle.schemas.specs.Positions.{frameEnd, fieldNode, fieldName, fieldWithin, nodeIn, columnsIn, Stands, FieldsStand}
+use Rattle.schemas.specs.Frames.{frameEnd}
+use Rattle.schemas.specs.Positions.{fieldNode, fieldName, fieldWithin, nodeIn, columnsIn, Stands, FieldsStand}
 
 -- A field stands at a place: its name, its node, and the fields behind it.
 pub record FieldStands (levels : ℕ) (s : List ℕ) (place to : ℕ) (name : List ℕ) (node : Schema) (more : SchemaFields) : Type 0 where
@@ -102,3 +104,15 @@ module _ {levels : ℕ} {s : List ℕ} {place to : ℕ} where
       subst (λ (x : List ℕ). FieldStands levels s place to x node more) n
       (subst (λ (x : Schema). FieldStands levels s place to (first .name) x more) d
       (subst (λ (x : SchemaFields). FieldStands levels s place to (first .name) (first .node) x) m (first .stands)))
+
+  -- What the readers of a field ask.
+  module _ {name : List ℕ} {node : Schema} {more : SchemaFields} (here : FieldStands levels s place to name node more) where
+    pub field-framed : frameEnd s place ≤ length s
+    field-framed = omega (arith, here .frame-in, here .behind .within)
+
+    pub field-named : fieldNode s place ≤ length s
+    field-named = omega (arith, here .fills, field-framed)
+
+  -- Fields are one list at most.
+  pub one-list : {columns others : SchemaFields} → FieldsStand levels s place to columns → FieldsStand levels s place to others → columns ≡ others
+  one-list stand also = let are = stand .are in let also-are = also .are in cc

@@ -14,7 +14,7 @@ use Rattle.numbers.specs.Little.{numberAt}
 use Rattle.paper.specs.Framing.{Piece, piecesWithin, piecesOf, only, onePiece}
 use Rattle.paper.specs.Words.{at, part, given, andThen}
 use Rattle.paper.proofs.WordLaws.{and-both}
-use Rattle.schemas.specs.Positions.{frameEnd, pieceAt, frameWithin}
+use Rattle.schemas.specs.Frames.{frameEnd, pieceAt, frameWithin}
 
 -- ---- the bytes between two positions
 

@@ -12,7 +12,8 @@ use Rattle.paper.specs.Schemas.{Column, Schema, leftoverOnly, column, list, fie
 use Rattle.paper.proofs.WordLaws.{and-both}
 use Rattle.schemas.proofs.FieldsStandLaws.{FirstField, first-field, field-stands}
 use Rattle.schemas.proofs.StandingLaws.{some-level, column-stands, list-stands, object-stands, schema-stands}
-use Rattle.schemas.specs.Positions.{frameEnd, fieldNode, Stands, FieldsStand}
+use Rattle.schemas.specs.Frames.{frameEnd}
+use Rattle.schemas.specs.Positions.{fieldNode, Stands, FieldsStand}
 use Rattle.schemas.specs.Written.{someField, goodSchema, goodFields}
 
 -- ---- into a good tree

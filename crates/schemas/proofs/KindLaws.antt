@@ -1,15 +1,15 @@
 -- The kind of a node: by its tag, and what stands there by the kind that was read.
-use mathlib.Core.Bool.{true}
 use mathlib.Core.List.{List}
-use mathlib.Core.Path.{_≡_, refl, sym, ap, _∙_}
+use mathlib.Core.Path.{_≡_, refl, sym, subst, _∙_}
 use Prim.Native.Nat.{ℕ, _+_}
 use native.Mathlib.Omega.{arith}
 use borrow.Author.Tests.{eq-eqb, ne-eqb}
-use Rattle.paper.specs.Schemas.{Schema, leftoverOnly, column, list, fields, SchemaFields, columnCode}
+use Rattle.paper.specs.Schemas.{Column, Schema, leftoverOnly, column, list, fields, SchemaFields}
 use Rattle.paper.specs.Words.{at}
-use Rattle.schemas.proofs.StandingLaws.{ListStands, ObjectStands, NodeAt, leftoverAt, columnAt, listAt, fieldsAt, node-at}
+use Rattle.schemas.proofs.StandingLaws.{LeftoverStands, ColumnStands, ListStands, ObjectStands, NodeAt, leftoverAt, columnAt, listAt, fieldsAt, node-at}
 use Rattle.schemas.specs.Kinds.{kindOf, kindAt, KindThere}
-use Rattle.schemas.specs.Positions.{frameEnd, Stands}
+use Rattle.schemas.specs.Frames.{frameEnd}
+use Rattle.schemas.specs.Positions.{Stands}
 use Rattle.schemas.specs.declared.readers.Kind.{Kind}
 use Rattle.schemas.specs.declared.readers.Kind.the-variants.{Leftover, Column as ColumnKind, List as ListKind, Fields}
 
@@ -34,10 +34,6 @@ module _ (s : List ℕ) (place : ℕ) where
 
 -- ---- what stands there
 
--- Two kinds that differ prove anything.
-other : {A : Type 0} → _≡_ {A = ℕ} 0 1 → A
-other e = absurd (omega arith)
-
 kind-by : {levels : ℕ} {s : List ℕ} {place : ℕ} {node : Schema} → NodeAt levels s place node → kindAt s place ≡ kindOf node
 unfolding kindAt kindOf
 kind-by (leftoverAt here) = rw (here .tagged)
@@ -51,6 +47,20 @@ code-by (columnAt here) e = here .ends
 code-by (listAt here) e = absurd (omega (arith, here .tagged))
 code-by (fieldsAt here) e = absurd (omega (arith, here .tagged))
 
+-- A node that stands, beside its kind.
+pub data KindHere (levels : ℕ) (s : List ℕ) (place : ℕ) : Schema → Kind → Type 0 where
+  leftoverHere : LeftoverStands s place → KindHere levels s place leftoverOnly Leftover
+  columnHere : {said : Column} → ColumnStands s place said → KindHere levels s place (column said) (ColumnKind (said .code))
+  listHere : {element : Schema} → ListStands levels s place element → KindHere levels s place (list element) ListKind
+  fieldsHere : {columns : SchemaFields} → ObjectStands levels s place columns → KindHere levels s place (fields columns) Fields
+
+here-by : {levels : ℕ} {s : List ℕ} {place : ℕ} {node : Schema} → NodeAt levels s place node → KindHere levels s place node (kindOf node)
+unfolding kindOf
+here-by (leftoverAt here) = leftoverHere here
+here-by (columnAt here) = columnHere here
+here-by (listAt here) = listHere here
+here-by (fieldsAt here) = fieldsHere here
+
 module _ {levels : ℕ} {s : List ℕ} {place : ℕ} {node : Schema} (stands : Stands levels s place node) where
   pub kind-is : kindAt s place ≡ kindOf node
   kind-is = kind-by (node-at stands)
@@ -63,45 +73,29 @@ module _ {levels : ℕ} {s : List ℕ} {place : ℕ} {node : Schema} (stands : S
       }
 
   module _ {k : Kind} (is : k ≡ kindAt s place) where
-    told : {o : Kind} → k ≡ o → kindOf node ≡ o
-    told e = sym (is ∙ kind-is) ∙ e
+    pub kind-here : {told : Kind} → k ≡ told → KindHere levels s place node told
+    kind-here e = subst (λ (o : Kind). KindHere levels s place node o) (sym (is ∙ kind-is) ∙ e) (here-by (node-at stands))
 
     pub leftover-here : k ≡ Leftover → node ≡ leftoverOnly
-    unfolding kindOf
-    leftover-here e = go (node-at stands) (told e)
+    leftover-here e = go (kind-here e)
       where
-        go : {node : Schema} → NodeAt levels s place node → kindOf node ≡ Leftover → node ≡ leftoverOnly
-        go (leftoverAt here) f = refl
-        go (columnAt here) f = other cc
-        go (listAt here) f = other cc
-        go (fieldsAt here) f = other cc
+        go : {node : Schema} → KindHere levels s place node Leftover → node ≡ leftoverOnly
+        go (leftoverHere here) = refl
 
-    pub column-here : {code : ℕ} → k ≡ ColumnKind code → (node ≡ column (record { code = code })) × (columnCode code ≡ true)
-    unfolding kindOf
-    column-here {code} e = go (node-at stands) (told e)
+    pub column-here : {code : ℕ} → k ≡ ColumnKind code → (said : Column) × (node ≡ column said) × (said .code ≡ code) × ColumnStands s place said
+    column-here e = go (kind-here e)
       where
-        go : {node : Schema} → NodeAt levels s place node → kindOf node ≡ ColumnKind code → (node ≡ column (record { code = code })) × (columnCode code ≡ true)
-        go (leftoverAt here) f = other cc
-        go (columnAt {said = said} here) f = let same : said .code ≡ code = cc in (ap column (rw (← same)), rw same at (here .good))
-        go (listAt here) f = other cc
-        go (fieldsAt here) f = other cc
+        go : {node : Schema} {code : ℕ} → KindHere levels s place node (ColumnKind code) → (said : Column) × (node ≡ column said) × (said .code ≡ code) × ColumnStands s place said
+        go (columnHere {said = said} here) = (said, refl, refl, here)
 
     pub list-here : k ≡ ListKind → (element : Schema) × (node ≡ list element) × ListStands levels s place element
-    unfolding kindOf
-    list-here e = go (node-at stands) (told e)
+    list-here e = go (kind-here e)
       where
-        go : {node : Schema} → NodeAt levels s place node → kindOf node ≡ ListKind → (element : Schema) × (node ≡ list element) × ListStands levels s place element
-        go (leftoverAt here) f = other cc
-        go (columnAt here) f = other cc
-        go (listAt {element = element} here) f = (element, refl, here)
-        go (fieldsAt here) f = other cc
+        go : {node : Schema} → KindHere levels s place node ListKind → (element : Schema) × (node ≡ list element) × ListStands levels s place element
+        go (listHere {element = element} here) = (element, refl, here)
 
     pub object-here : k ≡ Fields → (columns : SchemaFields) × (node ≡ fields columns) × ObjectStands levels s place columns
-    unfolding kindOf
-    object-here e = go (node-at stands) (told e)
+    object-here e = go (kind-here e)
       where
-        go : {node : Schema} → NodeAt levels s place node → kindOf node ≡ Fields → (columns : SchemaFields) × (node ≡ fields columns) × ObjectStands levels s place columns
-        go (leftoverAt here) f = other cc
-        go (columnAt here) f = other cc
-        go (listAt here) f = other cc
-        go (fieldsAt {columns = columns} here) f = (columns, refl, here)
+        go : {node : Schema} → KindHere levels s place node Fields → (columns : SchemaFields) × (node ≡ fields columns) × ObjectStands levels s place columns
+        go (fieldsHere {columns = columns} here) = (columns, refl, here)

@@ -16,7 +16,8 @@ use Rattle.paper.specs.Schemas.{Column, leftoverOnly, column, list, columnCode,
 use Rattle.paper.specs.Words.{at, part, given, andThen, isThere}
 use Rattle.paper.proofs.WordLaws.{there-then}
 use Rattle.schemas.proofs.FramingLaws.{length-part, part-cons, one-piece, one-not}
-use Rattle.schemas.specs.Positions.{frameEnd, pieceAt, nodeIn, objectIn}
+use Rattle.schemas.specs.Frames.{frameEnd, pieceAt}
+use Rattle.schemas.specs.Positions.{nodeIn, objectIn}
 
 -- ---- a column's body
 

@@ -14,9 +14,10 @@ use Rattle.paper.specs.Metadata.{rising}
 use Rattle.paper.specs.Schemas.{Schema, fields, SchemaFields, noColumns, named, columnNames, fieldNodes, nodeBy, nodeOf}
 use Rattle.paper.specs.Words.{part, given, andThen, isThere}
 use Rattle.schemas.proofs.FieldLaws.{fieldThen, columns-at, columns-ended}
-use Rattle.schemas.proofs.FrameLaws.{FieldHere, field-here}
+use Rattle.schemas.proofs.FieldFrameLaws.{FieldHere, field-here}
 use Rattle.schemas.proofs.FramingLaws.{pieceThen, pieces-ended, pieces-step}
-use Rattle.schemas.specs.Positions.{frameEnd, pieceAt, fieldNode, fieldName, frameWithin, fieldWithin, followsAt, nodeIn, columnsIn, objectIn}
+use Rattle.schemas.specs.Frames.{frameEnd, pieceAt, frameWithin}
+use Rattle.schemas.specs.Positions.{fieldNode, fieldName, fieldWithin, followsAt, nodeIn, columnsIn, objectIn}
 
 -- ---- names that rise behind others
 

@@ -16,7 +16,8 @@ use Rattle.paper.specs.Words.{at, part, given, andThen, isThere}
 use Rattle.paper.proofs.WordLaws.{never, and-both, given-some, then-some}
 use Rattle.schemas.proofs.FramingLaws.{length-part, part-cons, pieces-ended, one-piece, one-not}
 use Rattle.schemas.proofs.NodeLaws.{schema-node}
-use Rattle.schemas.specs.Positions.{frameEnd, pieceAt, nodeIn, columnsIn, Stands, FieldsStand}
+use Rattle.schemas.specs.Frames.{frameEnd, pieceAt}
+use Rattle.schemas.specs.Positions.{nodeIn, columnsIn, Stands, FieldsStand}
 
 -- ---- a piece that is alone between two positions
 

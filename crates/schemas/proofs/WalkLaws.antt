@@ -15,7 +15,8 @@ use Rattle.paper.specs.Schemas.{Schema, leftoverOnly, column, list, fields, Sch
 use Rattle.paper.specs.Words.{at}
 use Rattle.schemas.proofs.FieldsStandLaws.{FieldStands, field-stands, no-columns}
 use Rattle.schemas.proofs.StandingLaws.{leftover-stands, column-stands, ListStands, list-stands, ObjectStands, object-stands, schema-stands}
-use Rattle.schemas.specs.Positions.{frameEnd, fieldNode, Stands, FieldsStand}
+use Rattle.schemas.specs.Frames.{frameEnd}
+use Rattle.schemas.specs.Positions.{fieldNode, Stands, FieldsStand}
 use Rattle.schemas.specs.Walk.{frameNext, Frames, arrived, further}
 
 -- ---- one frame further

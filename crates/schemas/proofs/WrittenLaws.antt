@@ -15,7 +15,8 @@ use Rattle.paper.specs.Words.{at, part}
 use Rattle.schemas.proofs.FieldsStandLaws.{field-stands, no-columns}
 use Rattle.schemas.proofs.FramingLaws.{length-part, part-cons, part-none}
 use Rattle.schemas.proofs.StandingLaws.{leftover-stands, column-stands, list-stands, object-stands, schema-stands}
-use Rattle.schemas.specs.Positions.{frameEnd, pieceAt, fieldNode, Stands, FieldsStand}
+use Rattle.schemas.specs.Frames.{frameEnd, pieceAt}
+use Rattle.schemas.specs.Positions.{fieldNode, Stands, FieldsStand}
 use Rattle.schemas.specs.Written.{schemaBytes, fieldsBytes}
 
 -- ---- a frame is its piece written

@@ -1,5 +1,6 @@
 -- A schema as bytes: what stands in it, and where.
+pub mod Frames
 pub mod Positions
 pub mod Kinds
-pub mod Written
 pub mod Walk
+pub mod Written

@@ -1,33 +1,17 @@
--- A schema stays bytes: frames, nodes and fields are known by the positions where they stand.
+-- A schema stays bytes: nodes and fields are known by the positions where they stand.
 use mathlib.Core.Bool.{Bool, true, _&&_, _||_}
 use mathlib.Core.List.{List}
 use mathlib.Core.Option.{Option, some}
 use mathlib.Core.Path.{_≡_}
 use Prim.Native.Nat.{ℕ, _+_, _≤_}
-use lib.Dec.{leb, eqb}
+use lib.Dec.{eqb}
 use lib.ListN.{length}
-use Rattle.numbers.specs.Little.{numberAt}
 use Rattle.order.specs.Before.{before}
-use Rattle.paper.specs.Framing.{Piece, piecesOf, onePiece}
+use Rattle.paper.specs.Framing.{piecesOf, onePiece}
 use Rattle.paper.specs.Metadata.{rising}
 use Rattle.paper.specs.Schemas.{Schema, SchemaFields, columnNames, fieldNodes, fieldsTag, nodeBy, nodeOf}
-use Rattle.paper.specs.Words.{at, part, andThen}
-
--- ---- frames
-
--- Where the frame at a position ends: behind its tag, its two-byte length and its body.
-abbrev pub frameEnd : List ℕ → ℕ → ℕ
-frameEnd s place = place + 3 + numberAt s (place + 1) 2
-
-abbrev pub pieceAt : List ℕ → ℕ → Piece
-pieceAt s place = record { tag = at s place; body = part s (place + 3) (frameEnd s place) }
-
--- The frame at a position is whole, and ends at another at the latest.
-unfoldable pub frameWithin : List ℕ → (place end : ℕ) → Bool
-frameWithin s place end = leb (place + 3) end && leb (frameEnd s place) end
-
-unfoldable pub taggedWithin : List ℕ → (place end tag : ℕ) → Bool
-taggedWithin s place end tag = frameWithin s place end && eqb (at s place) tag
+use Rattle.paper.specs.Words.{part, andThen}
+use Rattle.schemas.specs.Frames.{frameEnd, pieceAt, taggedWithin}
 
 -- ---- a field: its name's frame opens its body, and its node stands behind the name
 

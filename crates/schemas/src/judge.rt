@@ -4,27 +4,13 @@ ghost use Prim.Native.Nat.{_≤_};
 ghost use lib.ListN.{length};
 ghost use Rattle.paper.specs.Schemas.{columnOf, schemaOf};
 ghost use Rattle.paper.specs.Words.{part, isThere};
-ghost use Rattle.schemas.specs.Positions.{fieldNode, taggedWithin, fieldWithin, followsAt, nodeIn, objectIn};
+ghost use Rattle.schemas.specs.Positions.{fieldNode, fieldWithin, followsAt, nodeIn, objectIn};
+use crate::frames::frame_end;
+use crate::frames::tagged_within;
 use crate::readers::field_name;
 use crate::readers::field_node;
-use crate::readers::frame_end;
 use order::Order;
 use paper::MOST_LEVELS;
-
-// A whole frame of a tag stands at a place, and ends where its part of the schema does or before.
-fn tagged_within(s: &[u8], place: usize, end: usize, tag: u8) -> bool
-    requires { ⌜ (place ≤ end) × (end ≤ length (now s)) ⌝ }
-    ensures { λ r. ⌜ r ≡ taggedWithin (now (s .entry)) place end tag ⌝ }
-{
-    if end - place < 3 {
-        return false;
-    }
-    let body = place + 3;
-    if end - body < numbers::read(s, place + 1, 2) {
-        return false;
-    }
-    s[place] == tag
-}
 
 // A field's frame is whole, and so is the name's that opens it.
 fn field_within(s: &[u8], place: usize, end: usize) -> bool

@@ -1,11 +1,13 @@
 // Schemas: a lent one judged, and a good one's nodes and fields handed out by position. The schema stays bytes.
+mod frames;
 mod judge;
 mod readers;
 
+pub use frames::frame_end;
+pub use frames::tagged_within;
 pub use judge::good;
 pub use readers::Kind;
 pub use readers::field_name;
 pub use readers::field_node;
-pub use readers::frame_end;
 pub use readers::kind_at;
 pub use readers::next_frame;

@@ -1,12 +1,13 @@
-// A good schema read by position: the kind of a node, where a frame ends, a field's name and node.
+// A good schema read by position: the kind of a node, a field's name and node, the frames in order.
 //
 // Whoever calls these has shown that what is read stands there.
 ghost use mathlib.Core.Path.{_≡_};
 ghost use Prim.Native.Nat.{_≤_};
 ghost use lib.ListN.{length};
-ghost use Rattle.schemas.specs.Positions.{frameEnd, fieldNode, fieldName};
+ghost use Rattle.schemas.specs.Positions.{fieldNode, fieldName};
 ghost use Rattle.schemas.specs.Kinds.{kindAt, KindThere};
 ghost use Rattle.schemas.specs.Walk.{frameNext};
+use crate::frames::frame_end;
 
 // The kind of a node: leftover only, a column of a type code, a list, an object with fields.
 pub enum Kind {
@@ -32,14 +33,6 @@ pub fn kind_at(schema: &[u8], place: usize) -> Kind
         return Kind::List;
     }
     Kind::Fields
-}
-
-// Where the frame at a position ends: behind a node all of it, behind a field the next one or the object's end.
-pub fn frame_end(schema: &[u8], place: usize) -> usize
-    requires { ⌜ frameEnd (now schema) place ≤ length (now schema) ⌝ }
-    ensures { λ r. ⌜ r ≡ frameEnd (now (schema .entry)) place ⌝ }
-{
-    place + 3 + numbers::read(schema, place + 1, 2)
 }
 
 // Where the node of the field at a position stands: behind the name.

@@ -1,6 +1,6 @@
 -- `field_within`: the field's frame, and in it the name's.
 use borrow.Author.Needs.{needs}
-use Rattle.schemas.proofs.FrameLaws.{field-not, field-frame, field-body, field-is}
+use Rattle.schemas.proofs.FieldFrameLaws.{field-not, field-frame, field-body, field-is}
 use Rattle.schemas.proofs.judge.field_within.Statement.{statement}
 use Rattle.schemas.proofs.judge.field_within.Tie as tie
 

@@ -1,7 +1,7 @@
 -- `follows`: the first field follows nothing; else less is answered exactly where the name before comes first.
 use borrow.Author.Needs.{needs}
 use Rattle.dictionary.proofs.CompareLaws.{isLess}
-use Rattle.schemas.proofs.FrameLaws.{follows-first, follows-by}
+use Rattle.schemas.proofs.FieldFrameLaws.{follows-first, follows-by}
 use Rattle.schemas.proofs.judge.follows.Statement.{statement}
 use Rattle.schemas.proofs.judge.follows.Tie as tie
 
