@@ -22,7 +22,7 @@ use Rattle.schemas.proofs.WalkLaws.{next-forward}
 use Rattle.schemas.specs.Positions.{frameEnd, fieldNode, fieldName}
 use Rattle.schemas.specs.Walk.{frameNext}
 
-pub record Scanned (names : Dictionary) (s before table : List ℕ) (place : ℕ) : Type 0 where
+pub record ScanSeen (names : Dictionary) (s before table : List ℕ) (place : ℕ) : Type 0 where
   pub root : Schema
   pub is : schemaOf s ≡ some root
   pub front : List Spot
@@ -32,7 +32,7 @@ pub record Scanned (names : Dictionary) (s before table : List ℕ) (place : ℕ
   pub rest : Left s place left
   pub size : length table ≡ length before
 
-pub scan-start : (names : Dictionary) (s table : List ℕ) → isThere (schemaOf s) ≡ true → Scanned names s table table 0
+pub scan-start : (names : Dictionary) (s table : List ℕ) → isThere (schemaOf s) ≡ true → ScanSeen names s table table 0
 unfolding AllTold
 scan-start names s table good =
     let read = there-some (schemaOf s) good in
@@ -50,7 +50,7 @@ scan-start names s table good =
       size = refl;
     }
 
-module _ {names : Dictionary} {s before table : List ℕ} {place : ℕ} (scanned : Scanned names s before table place) where
+module _ {names : Dictionary} {s before table : List ℕ} {place : ℕ} (scanned : ScanSeen names s before table place) where
   -- ---- a field
 
   module _ (inside : place < length s) (tagged : at s place ≡ 0x31) where
@@ -68,7 +68,7 @@ module _ {names : Dictionary} {s before table : List ℕ} {place : ℕ} (scanned
         let first = field-first in
         entry-there place (length s) (length table) (first .room) (omega arith)
 
-    pub scan-field : length s / 9 ≤ length before → {after : List ℕ} → Noted names (fieldName s place) place table after → Scanned names s before after (fieldNode s place)
+    pub scan-field : length s / 9 ≤ length before → {after : List ℕ} → Noted names (fieldName s place) place table after → ScanSeen names s before after (fieldNode s place)
     scan-field room {after} noted =
         let first = field-first in
         let spot : Spot = record { place = place; name = fieldName s place } in
@@ -102,7 +102,7 @@ module _ {names : Dictionary} {s before table : List ℕ} {place : ℕ} (scanned
         go (atField first) = absurd (no-field (first .tagged))
         go (atNode first) = first
 
-    pub scan-node : Scanned names s before table (frameNext s place)
+    pub scan-node : ScanSeen names s before table (frameNext s place)
     scan-node =
         record {
           root = scanned .root;

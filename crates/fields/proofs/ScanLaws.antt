@@ -5,6 +5,7 @@ use Prim.Native.Nat.{ℕ, _+_, _-_, _≤_}
 use native.Mathlib.Omega.{arith}
 use lib.ListN.{length}
 use Rattle.fields.proofs.SpotLaws.{Spot, spotsIn, spotsOf}
+use Rattle.fields.proofs.TellingLaws.{field-room}
 use Rattle.paper.specs.Schemas.{Schema, leftoverOnly, column, list, fields, SchemaFields, noColumns, named}
 use Rattle.paper.specs.Words.{at}
 use Rattle.schemas.proofs.FieldsStandLaws.{field-stands, no-columns}
@@ -84,7 +85,7 @@ module _ {s : List ℕ} {place : ℕ} {left : List Spot} where
         tagged = here .tagged;
         more = spotsIn s node (fieldNode s place) ++ (spotsOf s columns (frameEnd s place) ++ more);
         first = e ∙ rw (append-assoc (spotsIn s node (fieldNode s place)) (spotsOf s columns (frameEnd s place)) more, here .name-is);
-        room = omega arith;
+        room = field-room here;
         named-in = omega arith;
         rest = nodeLeft levels node (spotsOf s columns (frameEnd s place) ++ more) inside refl
             (moved (sym (here .fills)) (fieldsLeft levels columns to more (here .behind) refl rest));

@@ -12,7 +12,7 @@ use Rattle.schemas.specs.Positions.{frameEnd, fieldNode}
 
 -- ---- entries
 
--- An entry is 0 where no id has the name, else the id and one.
+-- An entry is 0 where no id has the name, else one more than the id.
 unfoldable pub entryOf : Looked → ℕ
 entryOf (At id) = id .0 + 1
 entryOf Nowhere = 0

@@ -72,17 +72,17 @@ order-less a b = go (before a b) (before b a)
   where
     go : (p q : Bool) → cond p Less (cond q Greater Equal) ≡ Less → p ≡ true
     go true q e = refl
-    go false true e = never (let z : _≡_ {A = ℕ} 0 1 = cc in absurd (omega arith))
-    go false false e = never (let z : _≡_ {A = ℕ} 0 1 = cc in absurd (omega arith))
+    go false true e = absurd (let z : _≡_ {A = ℕ} 0 1 = cc in omega arith)
+    go false false e = absurd (let z : _≡_ {A = ℕ} 0 1 = cc in omega arith)
 
 order-greater : (a b : List ℕ) → orderOf a b ≡ Greater → before b a ≡ true
 unfolding orderOf
 order-greater a b = go (before a b) (before b a)
   where
     go : (p q : Bool) → cond p Less (cond q Greater Equal) ≡ Greater → q ≡ true
-    go true q e = never (let z : _≡_ {A = ℕ} 0 1 = cc in absurd (omega arith))
+    go true q e = absurd (let z : _≡_ {A = ℕ} 0 1 = cc in omega arith)
     go false true e = refl
-    go false false e = never (let z : _≡_ {A = ℕ} 0 1 = cc in absurd (omega arith))
+    go false false e = absurd (let z : _≡_ {A = ℕ} 0 1 = cc in omega arith)
 
 -- A name that stands at no place is not among them.
 differ : (name : List ℕ) (names : Dictionary) → ((i : ℕ) → i < length names → getD names i [] ≡ name → ⊥) → among name names ≡ false
@@ -100,13 +100,13 @@ differ name (first ∷ more) other = go (among name (first ∷ more)) refl (diff
 
 -- ---- the halves
 
-pub record Halved (names : Dictionary) (name : List ℕ) (low high : ℕ) : Type 0 where
+pub record LookSeen (names : Dictionary) (name : List ℕ) (low high : ℕ) : Type 0 where
   pub ordered : low ≤ high
   pub within : high ≤ length names
   pub lower : (i : ℕ) → i < low → before (getD names i []) name ≡ true
   pub upper : (i : ℕ) → high ≤ i → i < length names → before name (getD names i []) ≡ true
 
-pub halved-start : (names : Dictionary) (name : List ℕ) (count : ℕ) → length names ≡ count → Halved names name 0 count
+pub halved-start : (names : Dictionary) (name : List ℕ) (count : ℕ) → length names ≡ count → LookSeen names name 0 count
 halved-start names name count size =
     record {
       ordered = omega arith;
@@ -115,12 +115,12 @@ halved-start names name count size =
       upper = λ i h k. absurd (omega arith);
     }
 
-module _ {names : Dictionary} {name : List ℕ} {low high : ℕ} (halved : Halved names name low high) where
+module _ {names : Dictionary} {name : List ℕ} {low high : ℕ} (halved : LookSeen names name low high) where
   module _ (fall : neverFalls names ≡ true) (middle : ℕ) (h : middle < high) where
     inside : middle < length names
     inside = let w = halved .within in omega arith
 
-    pub halved-less : low ≤ middle → orderOf (getD names middle []) name ≡ Less → Halved names name (middle + 1) high
+    pub halved-less : low ≤ middle → orderOf (getD names middle []) name ≡ Less → LookSeen names name (middle + 1) high
     halved-less l is = record { ordered = omega arith; within = halved .within; lower = λ i k. go (ltb i middle) refl k; upper = halved .upper }
       where
         here : before (getD names middle []) name ≡ true
@@ -134,7 +134,7 @@ module _ {names : Dictionary} {name : List ℕ} {low high : ℕ} (halved : Halve
             let same : i ≡ middle = omega arith in
             rw same here
 
-    pub halved-greater : low ≤ middle → orderOf (getD names middle []) name ≡ Greater → Halved names name low middle
+    pub halved-greater : low ≤ middle → orderOf (getD names middle []) name ≡ Greater → LookSeen names name low middle
     halved-greater l is = record { ordered = l; within = let i = inside in omega arith; lower = halved .lower; upper = λ i k w. go (ltb middle i) refl k w }
       where
         here : before name (getD names middle []) ≡ true

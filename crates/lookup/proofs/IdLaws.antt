@@ -54,17 +54,17 @@ names-all names count size =
 -- ---- the loop that lists them
 
 -- After i ids.
-pub record ListedTo (before after : List ℕ) (i : ℕ) : Type 0 where
+pub record ListSeen (before after : List ℕ) (i : ℕ) : Type 0 where
   pub far : i ≤ length before
   pub size : length after ≡ length before
   pub front : take i after ≡ idsBelow i
 
-pub list-start : (ids : List ℕ) → ListedTo ids ids 0
+pub list-start : (ids : List ℕ) → ListSeen ids ids 0
 unfolding idsBelow
 list-start ids = record { far = omega arith; size = refl; front = refl }
 
-module _ {before after : List ℕ} {i : ℕ} (listed : ListedTo before after i) where
-  pub list-next : i < length after → {next : List ℕ} → next ≡ set after i i → ListedTo before next (i + 1)
+module _ {before after : List ℕ} {i : ℕ} (listed : ListSeen before after i) where
+  pub list-next : i < length after → {next : List ℕ} → next ≡ set after i i → ListSeen before next (i + 1)
   unfolding idsBelow
   list-next h {next} e =
       let size : length after ≡ length before = listed .size in

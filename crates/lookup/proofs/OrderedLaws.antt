@@ -21,7 +21,7 @@ use Rattle.lookup.specs.Looking.{Tells, found, missing, Ordered, idsBelo
 use Rattle.lookup.specs.declared.Looked.the-variants.{At, Nowhere}
 use Rattle.dictionary.proofs.DictionaryLaws.{opened-count, opened-rising, opened-there, opened-width}
 use Rattle.dictionary.proofs.NumbersRunLaws.{below-at}
-use Rattle.lookup.proofs.HalvingLaws.{Halved, rising-never, halved-start, halved-less, halved-greater, halved-none}
+use Rattle.lookup.proofs.HalvingLaws.{LookSeen, rising-never, halved-start, halved-less, halved-greater, halved-none}
 use Rattle.lookup.proofs.IdLaws.{ids-length, ids-at, ids-below, names-all}
 use Rattle.order.proofs.OrderLaws.{equal-same}
 use Rattle.paper.proofs.WordLaws.{never}
@@ -93,10 +93,10 @@ module _ {m : List ℕ} {d : Names} {order : List ℕ} (o : Opened m d) (told : 
   ids-count : length (idsInOrder d order) ≡ d .count
   ids-count = in-order .size ∙ ids-length (d .count)
 
-  pub look-start : Halved (namesInOrder m d order) name 0 (d .count)
+  pub look-start : LookSeen (namesInOrder m d order) name 0 (d .count)
   look-start = halved-start (namesInOrder m d order) name (d .count) (names-length (namesIn m) (idsInOrder d order) ∙ ids-count)
 
-  module _ {low high : ℕ} (halved : Halved (namesInOrder m d order) name low high) where
+  module _ {low high : ℕ} (halved : LookSeen (namesInOrder m d order) name low high) where
     pub look-none : high ≤ low → Tells (namesIn m) name Nowhere
     look-none h =
         missing
@@ -146,8 +146,8 @@ module _ {m : List ℕ} {d : Names} {order : List ℕ} (o : Opened m d) (told : 
               let lower = look-below in
               found id (omega arith) (equal-same (getD (namesIn m) (id .0) []) name (sym answer ∙ e))
 
-          pub look-less : side ≡ Less → low ≤ middle → Halved (namesInOrder m d order) name (middle + 1) high
+          pub look-less : side ≡ Less → low ≤ middle → LookSeen (namesInOrder m d order) name (middle + 1) high
           look-less e l = halved-less halved (in-order .order) middle h l (stands-there e)
 
-          pub look-greater : side ≡ Greater → low ≤ middle → Halved (namesInOrder m d order) name low middle
+          pub look-greater : side ≡ Greater → low ≤ middle → LookSeen (namesInOrder m d order) name low middle
           look-greater e l = halved-greater halved (in-order .order) middle h l (stands-there e)

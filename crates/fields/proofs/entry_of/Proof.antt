@@ -12,8 +12,6 @@ pub entry-of-spec : {M : Type 1} → statement M
 entry-of-spec =
     tie.close
     (tie.spec
-    (λ c. search needs)
-    add-result
-    (λ c. search needs)
-    (λ c. entry-at (c .before .before .looked .given .1))
+    (λ c. search needs) add-result
+    (λ c. search needs) (λ c. entry-at (c .before .before .looked .given .1))
     (λ c. search (needs, entry-nowhere)))

@@ -10,9 +10,6 @@ pub field-id-spec : {M : Type 1} → statement M
 field-id-spec =
     tie.close
     (tie.spec
-    (λ c. search needs)
-    (λ c. search needs)
-    (λ c. omega (arith, c .shared-slice-known .given (c .before .args .place / 9)))
+    (λ c. search needs) (λ c. search needs) (λ c. omega (arith, c .shared-slice-known .given (c .before .args .place / 9)))
     (λ c. looked-none (c .if1 .taken))
-    (λ c. search needs)
-    (λ c. looked-some _ (c .if1 .left)))
+    (λ c. search needs) (λ c. looked-some _ (c .if1 .left)))

@@ -5,12 +5,12 @@ use borrow.Author.Needs.{needs}
 use lib.ListN.{length}
 use Rattle.paper.specs.Metadata.{namesIn}
 use Rattle.schemas.proofs.WalkLaws.{next-forward}
-use Rattle.fields.proofs.FillLaws.{Scanned, scan-start, field-first, field-entry, scan-field, node-first, scan-node, scan-done}
+use Rattle.fields.proofs.FillLaws.{ScanSeen, scan-start, field-first, field-entry, scan-field, node-first, scan-node, scan-done}
 use Rattle.fields.proofs.fill.Statement.{statement}
 use Rattle.fields.proofs.fill.Tie as tie
 
 abbrev Inv-loop : tie.InvT-loop
-Inv-loop schema metadata names order table₀ place₀ table place = Scanned (namesIn metadata) schema table₀ table place
+Inv-loop schema metadata names order table₀ place₀ table place = ScanSeen (namesIn metadata) schema table₀ table place
 
 abbrev μ-loop : tie.MeasureT-loop
 μ-loop schema metadata names order table₀ place₀ table place = length schema - place
@@ -58,15 +58,11 @@ loop-again-2 c =
 pub fill-spec : {M : Type 1} → statement M
 fill-spec =
     tie.close
-    (tie.spec
-    Inv-loop
-    μ-loop
+    (tie.spec Inv-loop μ-loop
     (λ c. search (needs, scan-start))
-    (λ c. search needs)
-    note-requires
+    (λ c. search needs) note-requires
     field-node-requires
-    (λ c. search needs)
-    loop-again
+    (λ c. search needs) loop-again
     next-frame-requires
     loop-less-2
     loop-again-2

@@ -2,13 +2,13 @@
 use Prim.Native.Nat.{_-_}
 use native.Mathlib.Omega.{arith}
 use borrow.Author.Needs.{needs}
-use Rattle.lookup.proofs.HalvingLaws.{Halved}
+use Rattle.lookup.proofs.HalvingLaws.{LookSeen}
 use Rattle.lookup.proofs.OrderedLaws.{namesInOrder, order-room, look-start, look-none, look-few, look-inside, look-below, look-found, look-less, look-greater}
 use Rattle.lookup.proofs.look_up.Statement.{statement}
 use Rattle.lookup.proofs.look_up.Tie as tie
 
 abbrev Inv-loop : tie.InvT-loop
-Inv-loop metadata names order name low₀ high₀ low high = Halved (namesInOrder metadata names order) name low high
+Inv-loop metadata names order name low₀ high₀ low high = LookSeen (namesInOrder metadata names order) name low high
 
 abbrev μ-loop : tie.MeasureT-loop
 μ-loop metadata names order name low₀ high₀ low high = high - low
@@ -65,21 +65,13 @@ loop-again-2 c =
 pub look-up-spec : {M : Type 1} → statement M
 look-up-spec =
     tie.close
-    (tie.spec
-    Inv-loop
-    μ-loop
+    (tie.spec Inv-loop μ-loop
     (λ c. search (needs, look-start))
-    (λ c. search needs)
-    add-middle
+    (λ c. search needs) add-middle
     ordered-id-requires
     stands-requires
-    (λ c. search needs)
-    add-low
-    (λ c. search needs)
-    loop-again
-    (λ c. search needs)
-    returns
-    (λ c. search needs)
-    (λ c. search needs)
-    loop-again-2
+    (λ c. search needs) add-low
+    (λ c. search needs) loop-again
+    (λ c. search needs) returns
+    (λ c. search needs) (λ c. search needs) loop-again-2
     (λ c. search (needs, look-none)))

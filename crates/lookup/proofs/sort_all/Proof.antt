@@ -8,7 +8,5 @@ pub sort-all-spec : {M : Type 1} → statement M
 sort-all-spec =
     tie.close
     (tie.spec
-    (λ c κs. search needs)
-    (λ c κs. search (needs, listed-below))
-    (λ c. search needs)
-    (λ c. search (needs, listed-sorted)))
+    (λ c κs. search needs) (λ c κs. search (needs, listed-below))
+    (λ c. search needs) (λ c. search (needs, listed-sorted)))
