@@ -13,7 +13,8 @@ use Rattle.paper.specs.Metadata.{Dictionary, rising}
 use Rattle.paper.specs.Schemas.{SchemaFields, columnNames}
 use Rattle.paper.specs.Values.{namesAt}
 use Rattle.paper.specs.Words.{numbers, allBelow}
-use Rattle.schemas.specs.Positions.{frameEnd, fieldNode, fieldName, FieldsStand}
+use Rattle.schemas.specs.Frames.{frameEnd}
+use Rattle.schemas.specs.Positions.{fieldNode, fieldName, FieldsStand}
 use Rattle.clashes.specs.Shared.{shared, SomeFields}
 use Rattle.clashes.proofs.SharedLaws.{shared-none, shared-less, shared-greater, shared-equal}
 use Rattle.containers.proofs.RunLaws.{Standing, standing-start, standing-next, run-next, run-here, run-ended}

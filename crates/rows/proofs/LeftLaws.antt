@@ -3,7 +3,7 @@ use mathlib.Core.Bool.{Bool, true, false, cond, not, _&&_, _||_}
 use mathlib.Core.List.{List}
 use mathlib.Core.Option.{Option, none, some}
 use mathlib.Core.Path.{_≡_, refl, sym, ap, _∙_}
-use Prim.Native.Nat.{ℕ, _+_, _%_, _≤_, _<_}
+use Prim.Native.Nat.{ℕ, _+_, _-_, _%_, _≤_, _<_}
 use native.Mathlib.Omega.{arith}
 use borrow.Author.Tests.{eq-eqb, ne-eqb, le-leb, lt-leb, leb-true, not-true, not-false}
 use lib.Dec.{leb, eqb}
@@ -86,7 +86,7 @@ module _ (tag first : ℕ) where
       go false true = refl
       go false false = refl
 
-module _ {levels : ℕ} {s : List ℕ} {place : ℕ} (names : Dictionary) (left : List ℕ) where
+module _ (levels : ℕ) (s : List ℕ) (place : ℕ) (names : Dictionary) (left : List ℕ) where
   left-broken : (inner : ℕ) (d : Doc) → leftoverMeaning inner names left ≡ some d → (under : Schema) → Stands levels s place under
       → leftBrokenAt (at s place) (at left 0) ≡ leftBroken under d
   unfolding leftBrokenAt leftBroken
@@ -172,4 +172,4 @@ module _ {s : List ℕ} {place : ℕ} (names : Dictionary) (left : List ℕ) whe
         go leftoverOnly st (leftoverAt here) = absurd (omega (arith, here .tagged))
         go (column said) st (columnAt here) = absurd (omega (arith, here .tagged))
         go (list element) st (listAt here) = absurd (omega (arith, here .tagged))
-        go (fields columns) st n = unfold namedBy in told inner d (left-means inner names left means) _ columns (rw (ends) (object-stands st .inside))
+        go (fields columns) st n = unfold namedBy in told inner d (left-means inner names left means) (deep - 1) columns (rw ends (object-stands st .inside))

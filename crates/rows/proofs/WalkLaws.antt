@@ -25,7 +25,7 @@ use Rattle.paper.specs.Meaning.{Scalar}
 use Rattle.paper.specs.Metadata.{Dictionary, namesIn}
 use Rattle.paper.specs.Rows.{cell, noBody, cellBody}
 use Rattle.paper.specs.Rules.{cellLawful}
-use Rattle.paper.specs.Schemas.{Schema, leftoverOnly, column, list, fields, SchemaFields, noColumns, named, columnCode}
+use Rattle.paper.specs.Schemas.{Column, Schema, leftoverOnly, column, list, fields, SchemaFields, noColumns, named, columnCode}
 use Rattle.paper.specs.Words.{part, among, andThen, isThere}
 use Rattle.schemas.specs.Frames.{frameEnd}
 use Rattle.schemas.specs.Kinds.{kindAt, KindThere}
@@ -33,6 +33,7 @@ use Rattle.schemas.specs.Positions.{Stands, FieldsStand, fieldNode}
 use Rattle.schemas.specs.declared.readers.Kind.the-variants.{Leftover, Column as ColumnKind, List as ListKind, Fields}
 use Rattle.schemas.specs.declared.readers.Kind.{Kind}
 use Rattle.fields.proofs.EntryLaws.{entry-there}
+use Rattle.fields.proofs.TellingLaws.{FirstTold, element-told, fields-told, field-told}
 use Rattle.names.proofs.SameLaws.{among-at}
 use Rattle.schemas.proofs.FieldsStandLaws.{FirstField, FieldStands, first-field, no-field, one-list}
 use Rattle.schemas.proofs.KindLaws.{kind-there, leftover-here, column-here, list-here, object-here}
@@ -56,11 +57,14 @@ module _ {levels : ℕ} {s : List ℕ} {place : ℕ} {k : Kind} (is : k ≡ kind
       → (under : Schema) → Stands levels s place under → v ≡ typedVerdict under levels names body
   unfolding typedVerdict typedUnder typedLawful cellBody
   typed-cell {code} e good told v is-v under stands =
-      is-v ∙ rw (column-here stands is e .0, told) (go (cellMeaning (record { code = code }) body))
+      let here = column-here stands is e in
+      let same : _≡_ {A = Column} (record { code = code }) (here .0) = ap (λ (n : ℕ). record { code = n }) (sym (here .2 .0)) in
+      is-v ∙ rw (told, same) (go (here .0) (cellMeaning (here .0) body))
+      ∙ ap (λ (n : Schema). verdictOf (typedUnder n levels names body) (typedLawful n names)) (sym (here .1))
     where
-      go : (x : Option Scalar) → cond (isThere x) Lawful Unparsed ≡ verdictOf (andThen x λ value. some (cell (record { code = code }) value)) cellLawful
-      go none = unfold isThere in unfold verdictOf in unfold andThen in refl
-      go (some value) = unfold isThere in unfold verdictOf in unfold andThen in unfold cellLawful in refl
+      go : (said : Column) (x : Option Scalar) → cond (isThere x) Lawful Unparsed ≡ verdictOf (andThen x λ value. some (cell said value)) cellLawful
+      go said none = unfold isThere in unfold verdictOf in unfold andThen in refl
+      go said (some value) = unfold isThere in unfold verdictOf in unfold andThen in unfold cellLawful in refl
 
   pub typed-elements : k ≡ ListKind → (v : Verdict) → ((element : Schema) → Stands (levels - 1) s (place + 3) element → v ≡ elementsVerdict element (levels - 1) names body)
       → (under : Schema) → Stands levels s place under → v ≡ typedVerdict under levels names body
@@ -88,10 +92,9 @@ module _ {levels : ℕ} {readings metadata : List ℕ} {names : Names} {s table 
 
   module _ {k : Kind} (is : k ≡ kindAt s place) where
     pub ready-code : {code : ℕ} → k ≡ ColumnKind code → columnCode code ≡ true
-    ready-code e = column-here (ready .stands) is e .1
+    ready-code e = let here = column-here (ready .stands) is e in rw (here .2 .0) at (here .2 .1 .good)
 
     pub ready-element : k ≡ ListKind → NodeReady (levels - 1) readings metadata names s table (place + 3)
-    unfolding Told
     ready-element e =
         let here = list-here (ready .stands) is e in
         record {
@@ -100,11 +103,10 @@ module _ {levels : ℕ} {readings metadata : List ℕ} {names : Names} {s table 
           tabled = ready .tabled;
           node = here .0;
           stands = here .2 .inside;
-          told = rw (here .1) at (ready .told);
+          told = element-told (rw (here .1) at (ready .told));
         }
 
     pub ready-fields : k ≡ Fields → (to : ℕ) → to ≡ frameEnd s place → FieldsReady (levels - 1) readings metadata names s table (place + 3) to
-    unfolding Told
     ready-fields e to ends =
         let here = object-here (ready .stands) is e in
         record {
@@ -113,7 +115,7 @@ module _ {levels : ℕ} {readings metadata : List ℕ} {names : Names} {s table 
           tabled = ready .tabled;
           columns = here .0;
           stand = rw ends (here .2 .inside);
-          told = rw (here .1) at (ready .told);
+          told = fields-told (rw (here .1) at (ready .told));
         }
 
 -- ---- a list's places
@@ -214,8 +216,8 @@ module _ {levels : ℕ} {names : Dictionary} {s table : List ℕ} {from to : ℕ
     left-is : membersVerdict (seen .rest) levels names (drop place body) ≡ membersVerdict (named (first .name) (first .node) (first .more)) levels names (drop place body)
     left-is = ap (λ (c : SchemaFields). membersVerdict c levels names (drop place body)) (first .are)
 
-    first-told : FieldsTold names s table (named (first .name) (first .node) (first .more)) field
-    first-told = rw (first .are) at (seen .told)
+    first-told : FirstTold names s table (first .name) (first .node) (first .more) field
+    first-told = field-told (rw (first .are) at (seen .told))
 
     pub field-node-in : fieldNode s field ≤ length s
     field-node-in = let inside = first .stands .inside .within in omega arith
@@ -228,7 +230,6 @@ module _ {levels : ℕ} {names : Dictionary} {s table : List ℕ} {from to : ℕ
 
     pub field-ready : {readings metadata : List ℕ} {opens : Names} {start : ℕ} → names ≡ namesIn metadata → FieldsReady levels readings metadata opens s table start to
         → (node : ℕ) → node ≡ fieldNode s field → NodeReady levels readings metadata opens s table node
-    unfolding FieldsTold
     field-ready same ready node is =
         record {
           opened = ready .opened;
@@ -236,7 +237,7 @@ module _ {levels : ℕ} {names : Dictionary} {s table : List ℕ} {from to : ℕ
           tabled = ready .tabled;
           node = first .node;
           stands = rw is (first .stands .inside);
-          told = rw (is, ← same) (first-told .1 .0);
+          told = rw (is, ← same) (first-told .inside);
         }
 
     pub fields-few : length body ≤ place → (columns : SchemaFields) → FieldsStand levels s from to columns → Unparsed ≡ membersVerdict columns levels names body
@@ -261,10 +262,9 @@ module _ {levels : ℕ} {names : Dictionary} {s table : List ℕ} {from to : ℕ
             → (unnamed : Bool) → unnamed ≡ (ltb (place + 3) end && isNowhere (lookedAt table field))
             → (also : Verdict) → also ≡ brokenIf unnamed one → (next : Verdict) → next ≡ worse verdict also → (behind : ℕ) → behind ≡ frameEnd s field
             → FieldsSeen levels names s table from to body next behind end
-        unfolding FieldsTold
         fields-next node is one judged unnamed is-unnamed also is-also next is-next behind is-behind =
             let rule : unnamed ≡ (not (eqb (place + 3) end) && not (among (first .name) names)) =
-            is-unnamed ∙ rw (present-is (place + 3) end (fields-fit .0), nowhere-is (first-told .0)) in
+            is-unnamed ∙ rw (present-is (place + 3) end (fields-fit .0), nowhere-is (first-told .here)) in
             let here : one ≡ placeVerdict (first .node) levels names (part body (place + 3) end) = judged (first .node) (rw is (first .stands .inside)) in
             let broken : Verdict = brokenIf (not (eqb (place + 3) end) && not (among (first .name) names)) (placeVerdict (first .node) levels names (part body (place + 3) end)) in
             let is-broken : also ≡ broken = is-also ∙ rw (rule, here) in
@@ -272,7 +272,7 @@ module _ {levels : ℕ} {names : Dictionary} {s table : List ℕ} {from to : ℕ
               within = fields-fit .1;
               rest = first .more;
               stand = rw is-behind (first .stands .behind);
-              told = rw is-behind (first-told .1 .1);
+              told = rw is-behind (first-told .behind);
               whole-is =
                   λ columns stand.
                   seen .whole-is columns stand
