@@ -11,7 +11,8 @@ use Rattle.paper.specs.Metadata.{Dictionary}
 use Rattle.paper.specs.Schemas.{Schema, leftoverOnly, column, list, fields, SchemaFields, noColumns, named}
 use Rattle.schemas.proofs.FieldsStandLaws.{field-stands}
 use Rattle.schemas.proofs.StandingLaws.{list-stands, object-stands}
-use Rattle.schemas.specs.Positions.{frameEnd, fieldNode, Stands, FieldsStand}
+use Rattle.schemas.specs.Frames.{frameEnd}
+use Rattle.schemas.specs.Positions.{fieldNode, Stands, FieldsStand}
 
 -- Between two positions, each nine bytes or more in front of the next.
 pub data Apart : (from to : ℕ) → List Spot → Type 0 where

@@ -19,7 +19,8 @@ use Rattle.paper.specs.Words.{at, isThere}
 use Rattle.paper.proofs.WordLaws.{there-some}
 use Rattle.schemas.proofs.StandingLaws.{schema-stands}
 use Rattle.schemas.proofs.WalkLaws.{next-forward}
-use Rattle.schemas.specs.Positions.{frameEnd, fieldNode, fieldName}
+use Rattle.schemas.specs.Frames.{frameEnd}
+use Rattle.schemas.specs.Positions.{fieldNode, fieldName}
 use Rattle.schemas.specs.Walk.{frameNext}
 
 pub record ScanSeen (names : Dictionary) (s before table : List ℕ) (place : ℕ) : Type 0 where

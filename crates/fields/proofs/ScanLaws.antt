@@ -11,7 +11,8 @@ use Rattle.paper.specs.Words.{at}
 use Rattle.schemas.proofs.FieldsStandLaws.{field-stands, no-columns}
 use Rattle.schemas.proofs.StandingLaws.{leftover-stands, column-stands, list-stands, object-stands}
 use Rattle.schemas.proofs.WalkLaws.{next-column, next-other}
-use Rattle.schemas.specs.Positions.{frameEnd, fieldNode, fieldName, Stands, FieldsStand}
+use Rattle.schemas.specs.Frames.{frameEnd}
+use Rattle.schemas.specs.Positions.{fieldNode, fieldName, Stands, FieldsStand}
 use Rattle.schemas.specs.Walk.{frameNext}
 
 -- What is left: nothing, a node and what is left behind it, or fields and what is left behind them.

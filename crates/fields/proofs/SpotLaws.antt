@@ -6,7 +6,8 @@ use Rattle.fields.specs.Telling.{lookedAt, Told, leftoverTold, columnTol
 use Rattle.lookup.specs.Looking.{Tells}
 use Rattle.paper.specs.Metadata.{Dictionary}
 use Rattle.paper.specs.Schemas.{Schema, leftoverOnly, column, list, fields, SchemaFields, noColumns, named}
-use Rattle.schemas.specs.Positions.{frameEnd, fieldNode}
+use Rattle.schemas.specs.Frames.{frameEnd}
+use Rattle.schemas.specs.Positions.{fieldNode}
 
 -- A field: its position and its name.
 pub record Spot : Type 0 where

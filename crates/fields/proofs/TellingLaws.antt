@@ -9,7 +9,8 @@ use Rattle.lookup.specs.Looking.{Tells}
 use Rattle.paper.specs.Metadata.{Dictionary}
 use Rattle.paper.specs.Schemas.{Schema, list, fields, SchemaFields, named}
 use Rattle.schemas.proofs.FieldsStandLaws.{FieldStands}
-use Rattle.schemas.specs.Positions.{frameEnd, fieldNode}
+use Rattle.schemas.specs.Frames.{frameEnd}
+use Rattle.schemas.specs.Positions.{fieldNode}
 
 -- A field, its node, and the fields behind it.
 pub record FirstTold (names : Dictionary) (s table : List ℕ) (name : List ℕ) (node : Schema) (more : SchemaFields) (place : ℕ) : Type 0 where
