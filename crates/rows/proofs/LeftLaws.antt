@@ -9,6 +9,9 @@ use borrow.Author.Tests.{eq-eqb, ne-eqb, le-leb, lt-leb, leb-true, not-true, not
 use lib.Dec.{leb, eqb}
 use lib.ListN.{length}
 use Rattle.clashes.specs.Shared.{SomeFields}
+use Rattle.dictionary.specs.Judging.{Opened}
+use Rattle.dictionary.specs.declared.Names.{Names}
+use Rattle.heads.specs.Packing.{Readings}
 use Rattle.paper.specs.Limits.{mostLeftover}
 use Rattle.paper.specs.Meaning.{Doc}
 use Rattle.paper.specs.Metadata.{Dictionary, namesIn}
@@ -118,9 +121,10 @@ module _ (levels : ℕ) (s : List ℕ) (place : ℕ) (names : Dictionary) (left 
     left-there = sym is ∙ not-false b yes
 
     pub left-some : 0 < length left
+    unfolding leftoverMeaning
     left-some =
         let got = there-some (leftoverMeaning levels names left) left-there in
-        let told = given-some (leb (length left) mostLeftover) (meaningOf levels names left) (unfold leftoverMeaning in got .1) in
+        let told = given-some (leb (length left) mostLeftover) (meaningOf levels names left) (got .1) in
         let small = leb-true (length left) mostLeftover (told .0) in
         lawful-some (record { levels = levels; meant = some-there (meaningOf levels names left) (told .1); small = omega arith })
 
@@ -173,3 +177,48 @@ module _ {s : List ℕ} {place : ℕ} (names : Dictionary) (left : List ℕ) whe
         go (column said) st (columnAt here) = absurd (omega (arith, here .tagged))
         go (list element) st (listAt here) = absurd (omega (arith, here .tagged))
         go (fields columns) st n = unfold namedBy in told inner d (left-means inner names left means) (deep - 1) columns (rw ends (object-stands st .inside))
+
+-- ---- what the calls ask
+
+pub left-ready : {levels : ℕ} {readings metadata : List ℕ} {names : Names} {s : List ℕ} {place : ℕ} → LeftReady levels readings metadata names s place → place < length s
+left-ready ready = let inside = ready .stands .within in omega arith
+
+pub beside-ready : {levels : ℕ} {readings metadata : List ℕ} {names : Names} {s : List ℕ} {place : ℕ} → LeftReady levels readings metadata names s place
+    → (left : List ℕ) (b : Bool) → b ≡ isThere (leftoverMeaning levels (namesIn metadata) left) → not b ≡ false → BesideReady readings metadata names s place left
+beside-ready {levels} ready left b is known =
+    record {
+      opened = ready .opened;
+      readings-are = ready .readings-are;
+      levels = levels;
+      node = ready .node;
+      stands = ready .stands;
+      meant = sym is ∙ not-false b known;
+    }
+
+module _ {readings metadata : List ℕ} {names : Names} {s : List ℕ} {place : ℕ} {left : List ℕ} (ready : BesideReady readings metadata names s place left) where
+  pub node-in : place < length s
+  node-in = let inside = ready .stands .within in omega arith
+
+  pub frame-in : frameEnd s place ≤ length s
+  frame-in = ready .stands .within
+
+  lawful-left : LawfulIn (namesIn metadata) left
+  unfolding leftoverMeaning
+  lawful-left =
+      let got = there-some (leftoverMeaning (ready .levels) (namesIn metadata) left) (ready .meant) in
+      let told = given-some (leb (length left) mostLeftover) (meaningOf (ready .levels) (namesIn metadata) left) (got .1) in
+      let small = leb-true (length left) mostLeftover (told .0) in
+      record { levels = ready .levels; meant = some-there (meaningOf (ready .levels) (namesIn metadata) left) (told .1); small = omega arith }
+
+  pub left-in : 0 < length left
+  left-in = lawful-some lawful-left
+
+  pub clash-ready : at s place ≡ 0x30 → (from to : ℕ) → from ≡ place + 3 → to ≡ frameEnd s place
+      → Opened metadata names × Readings readings × LawfulIn (namesIn metadata) left × SomeFields s from to
+  clash-ready tag from to begins ends = (ready .opened, ready .readings-are, lawful-left, go (ready .node) (ready .stands) (node-at (ready .stands)))
+    where
+      go : (under : Schema) → Stands (ready .levels) s place under → NodeAt (ready .levels) s place under → SomeFields s from to
+      go leftoverOnly st (leftoverAt here) = absurd (omega (arith, here .tagged))
+      go (column said) st (columnAt here) = absurd (omega (arith, here .tagged))
+      go (list element) st (listAt here) = absurd (omega (arith, here .tagged))
+      go (fields columns) st n = record { levels = ready .levels - 1; columns = columns; stand = rw (begins, ends) (object-stands st .inside) }

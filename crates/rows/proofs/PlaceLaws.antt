@@ -2,7 +2,7 @@
 use mathlib.Core.Bool.{Bool, true, false, cond, not, _&&_, _||_}
 use mathlib.Core.List.{List, [], _∷_}
 use mathlib.Core.Option.{Option, none, some}
-use mathlib.Core.Path.{_≡_, refl, sym, ap, _∙_}
+use mathlib.Core.Path.{_≡_, refl, sym, ap, subst, _∙_}
 use Prim.Native.Nat.{ℕ, _+_, _≤_}
 use native.Mathlib.Omega.{arith}
 use borrow.Author.Tests.{eqb-true}
@@ -194,3 +194,17 @@ module _ (node : Schema) (levels : ℕ) (names : Dictionary) (body : List ℕ) w
       go none y = refl
       go (some d) none = unread (besideBroken node d)
       go (some d) (some t) = rw (both-lawful node (typedLawful node names) d t) (kept (besideBroken node d) (typedLawful node names t))
+
+-- ---- for the walker: by the parts that it was told
+
+pub told-by : (body : List ℕ) {p q : Parts} → p ≡ partsOf body → p ≡ q → Told body q
+told-by body {p} {q} is e = subst (Told body) (sym is ∙ e) (told body)
+
+pub one-long : (body : List ℕ) {p : Parts} → p ≡ partsOf body → p ≡ Leftover → 3 ≤ length body
+one-long body is e = let piece : OnePiece body 0x41 = told-by body is e in piece .long
+
+pub typed-long : (body : List ℕ) {p : Parts} → p ≡ partsOf body → p ≡ TypedPart → 3 ≤ length body
+typed-long body is e = let piece : OnePiece body 0x42 = told-by body is e in piece .long
+
+pub both-long : (body : List ℕ) {p : Parts} → p ≡ partsOf body → {middle : ℕ} → p ≡ Both middle → (3 ≤ middle) × (middle + 3 ≤ length body)
+both-long body is {middle} e = let pieces : TwoPieces body middle = told-by body is e in (pieces .first-long, pieces .second-long)

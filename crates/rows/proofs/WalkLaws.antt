@@ -6,7 +6,7 @@ use mathlib.Core.Option.{Option, none, some}
 use mathlib.Core.Path.{_≡_, refl, sym, ap, _∙_}
 use Prim.Native.Nat.{ℕ, _+_, _-_, _/_, _≤_, _<_}
 use native.Mathlib.Omega.{arith}
-use borrow.Author.Tests.{eqb-true, eqb-false, lt-ltb, le-ltb}
+use borrow.Author.Tests.{eqb-true, eqb-false, lt-ltb, le-ltb, not-false}
 use lib.Dec.{eqb, ltb}
 use lib.ListN.{length, getD, take, drop}
 use lib.Seq.{take-all}
@@ -35,6 +35,7 @@ use Rattle.schemas.specs.declared.readers.Kind.{Kind}
 use Rattle.fields.proofs.EntryLaws.{entry-there}
 use Rattle.fields.proofs.TellingLaws.{FirstTold, element-told, fields-told, field-told}
 use Rattle.names.proofs.SameLaws.{among-at}
+use Rattle.paper.proofs.WordLaws.{never}
 use Rattle.schemas.proofs.FieldsStandLaws.{FirstField, FieldStands, first-field, no-field, one-list}
 use Rattle.schemas.proofs.KindLaws.{kind-there, leftover-here, column-here, list-here, object-here}
 use Rattle.schemas.proofs.StandingLaws.{ListStands, ObjectStands, one-stands, some-level}
@@ -42,9 +43,14 @@ use Rattle.rows.proofs.StepLaws.{place-cut, place-ends, place-fits, ele
 use Rattle.rows.proofs.VerdictLaws.{typed-list, typed-fields, worse-unparsed, worse-lawful, worse-assoc}
 use Rattle.rows.specs.Frames.{placeEnd, placeFrame}
 use Rattle.rows.specs.Verdicts.{verdictOf, typedUnder, typedLawful, typedVerdict, placeVerdict, elementsVerdict, membersVerdict, worse, brokenIf}
-use Rattle.rows.specs.Walking.{NodeReady, FieldsReady, isNowhere}
+use Rattle.rows.specs.Walking.{NodeReady, FieldsReady, LeftReady, isNowhere}
 use Rattle.rows.specs.declared.verdicts.Verdict.the-variants.{Lawful, Broken, Unparsed}
 use Rattle.rows.specs.declared.verdicts.Verdict.{Verdict}
+
+-- What the rules of a leftover are judged by.
+pub left-ready : {levels : ℕ} {readings metadata : List ℕ} {names : Names} {s table : List ℕ} {place : ℕ} → NodeReady levels readings metadata names s table place
+    → LeftReady levels readings metadata names s place
+left-ready ready = record { opened = ready .opened; readings-are = ready .readings-are; node = ready .node; stands = ready .stands }
 
 -- ---- what is typed, by the kind of the node
 
@@ -58,7 +64,7 @@ module _ {levels : ℕ} {s : List ℕ} {place : ℕ} {k : Kind} (is : k ≡ kind
   unfolding typedVerdict typedUnder typedLawful cellBody
   typed-cell {code} e good told v is-v under stands =
       let here = column-here stands is e in
-      let same : _≡_ {A = Column} (record { code = code }) (here .0) = ap (λ (n : ℕ). record { code = n }) (sym (here .2 .0)) in
+      let same : _≡_ {A = Column} (record { code = code }) (here .0) = ap (λ (n : ℕ). record { code = n }) (sym (here .2)) in
       is-v ∙ rw (told, same) (go (here .0) (cellMeaning (here .0) body))
       ∙ ap (λ (n : Schema). verdictOf (typedUnder n levels names body) (typedLawful n names)) (sym (here .1))
     where
@@ -92,7 +98,7 @@ module _ {levels : ℕ} {readings metadata : List ℕ} {names : Names} {s table 
 
   module _ {k : Kind} (is : k ≡ kindAt s place) where
     pub ready-code : {code : ℕ} → k ≡ ColumnKind code → columnCode code ≡ true
-    ready-code e = let here = column-here (ready .stands) is e in rw (here .2 .0) at (here .2 .1 .good)
+    ready-code e = let here = column-here (ready .stands) is e in rw (here .2) at (here .3 .good)
 
     pub ready-element : k ≡ ListKind → NodeReady (levels - 1) readings metadata names s table (place + 3)
     ready-element e =
@@ -182,6 +188,19 @@ nowhere-is : {names : Dictionary} {name : List ℕ} {looked : Looked} → Tells 
 unfolding isNowhere
 nowhere-is {names} (found id below is) = sym (ap not (ap (λ (n : List ℕ). among n names) (sym is) ∙ among-at names (id .0) below))
 nowhere-is (missing none-has) = rw none-has
+
+pub not-present : (present : Bool) (looked : Looked) → not present ≡ true → false ≡ (present && isNowhere looked)
+not-present false looked e = refl
+not-present true looked e = never (sym e)
+
+module _ (present : Bool) (looked : Looked) (yes : not present ≡ false) (r : Looked) (is : r ≡ looked) where
+  pub named-there : (id : InputId) → r ≡ At id → false ≡ (present && isNowhere looked)
+  unfolding isNowhere
+  named-there id e = rw (not-false present yes, ← is, e)
+
+  pub named-nowhere : r ≡ Nowhere → true ≡ (present && isNowhere looked)
+  unfolding isNowhere
+  named-nowhere e = rw (not-false present yes, ← is, e)
 
 present-is : (inner end : ℕ) → inner ≤ end → ltb inner end ≡ not (eqb inner end)
 present-is inner end h = go (eqb inner end) refl
