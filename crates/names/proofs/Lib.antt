@@ -8,3 +8,4 @@ pub mod IdLaws
 pub mod MetadataLaws
 pub mod ContainedLaws
 pub mod NeverLongerLaws
+pub mod FewLaws

@@ -31,7 +31,7 @@ use Rattle.forms.proofs.GrowthLaws.{value-grows}
 use Rattle.forms.proofs.NamesLaws.{normal-names-there}
 use Rattle.marking.proofs.UsedIdLaws.{ids-below}
 use Rattle.names.proofs.ContainedLaws.{contained-length}
-use Rattle.names.proofs.NeverLongerLaws.{read-length, read-count}
+use Rattle.names.proofs.FewLaws.{count-is, names-few}
 use Rattle.names.proofs.SameLaws.{among-at}
 use Rattle.normalise.proofs.ChosenLaws.{chosen-used, ranks-right}
 use Rattle.paper.proofs.WordLaws.{there-some}
@@ -119,25 +119,15 @@ module _ {m : List ℕ} {names : Names} {v : List ℕ} (lent : Lent m names v) w
   read : dictionaryOf m ≡ some (namesIn m)
   read = opened-names (lent .opened)
 
-  count-is : names .count ≡ length (namesIn m)
-  count-is = lent .opened .count ∙ read-count m (namesIn m) read
-
   -- what the marking asks, of a table that has an entry for each name
   pub markable : (size : ℕ) → names .count ≤ size → Markable mostLevels v size
   markable size room =
       let short = lent .value-short in
-      let is = count-is in
+      let is = count-is (lent .opened) in
       record { names = namesIn m; meant = lent .meant; room = omega arith; small = omega arith }
 
   pub count-few : names .count ≤ mostNames
-  unfolding offsetSize
-  count-few =
-      let all = read-length m (namesIn m) read in
-      let one : (length (namesIn m) + 1) * 1 ≤ (length (namesIn m) + 1) * offsetSize (at m 0) = mul-le-mul (omega arith) (omega arith) in
-      let same = mul-one (length (namesIn m) + 1) in
-      let short = lent .metadata-short in
-      let is = count-is in
-      omega arith
+  count-few = names-few (lent .opened) (lent .metadata-short)
 
   pub numbered : ((i : ℕ) → getD v i 0 < 256) → {before used : List ℕ} → used ≡ markIds before (idsIn mostLevels v) → before ≡ replicate (length before) 0
       → names .count ≤ length before → {ranks chosen : List ℕ} {picked : ℕ} → Ranked (namesIn m) used ranks chosen picked
@@ -146,7 +136,7 @@ module _ {m : List ℕ} {names : Names} {v : List ℕ} (lent : Lent m names v) w
       let there = there-some (meaningOf mostLevels (namesIn m) v) (lent .meant) in
       let d : Doc = there .0 in
       let means : meaningOf mostLevels (namesIn m) v ≡ some d = there .1 in
-      let is = count-is in
+      let is = count-is (lent .opened) in
       let few = count-few in
       let picked-few = ranked .few in
       let marked : used ≡ markIds (replicate (length before) 0) (idsIn mostLevels v) = marks ∙ ap (λ (l : List ℕ). markIds l (idsIn mostLevels v)) clean in

@@ -6,3 +6,4 @@ pub mod StepLaws
 pub mod HalfLaws
 pub mod LeftLaws
 pub mod WalkLaws
+pub mod JudgeLaws

@@ -5,3 +5,4 @@ pub mod Frames
 pub mod Halves
 pub mod Leftovers
 pub mod Walking
+pub mod Judging

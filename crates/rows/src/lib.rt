@@ -1,10 +1,13 @@
 // A row judged under its schema: does it parse (6), does it keep rules a to f (7). One walk judges both.
 mod frame;
 mod halves;
+mod judging;
 mod leftovers;
 mod parts;
 mod rules;
 mod verdicts;
 mod walker;
 
-pub use verdicts::Verdict;
+pub use judging::RowJudged;
+pub use judging::RowParts;
+pub use judging::judge;
