@@ -3,7 +3,7 @@
 # make compare N=.. SEED=..: the proved library against the second program.  make bench: their speed side by side.
 SHELL := /bin/bash
 .SHELLFLAGS := -euo pipefail -c
-.PHONY: demo test tools toolchain layout second prove library compared compare bench definitions clean
+.PHONY: demo test tools toolchain layout second prove library compared not-compared compare bench definitions clean
 .NOTPARALLEL:
 
 # What rt ci printed, kept outside target/, which it removes, so that its verdict can be the gate's last line.
@@ -24,25 +24,28 @@ told = mkdir -p target; $(1) 2>&1 | tee $(SAID) \
 tested = cd $(1); mkdir -p target; $(CARGO) test > target/tests.log 2>&1 || { cat target/tests.log; exit 1; }; \
   grep -E '^(test result|warning)' target/tests.log
 
-# What each command needs.
+# What each command needs. Rattle's programs and libraries are for x86-64: on another machine rt runs them under its emulator,
+# no program can be linked with the library, and the gate leaves the comparison out and says so.
+MACHINE := $(shell uname -m)
 demo toolchain layout prove: NEEDED := rt
 definitions: NEEDED := rt python3
 second: NEEDED := cargo rustc cc
-library compared compare bench: NEEDED := rt cargo rustc cc
+library compared compare bench: NEEDED := rt cargo rustc cc x86_64
 test: NEEDED := rt cargo rustc cc python3
 
 demo: tools toolchain
 	@$(call told,rt check demo)
-	@target/bin/demo < crates/demo/stdin
+	@if [ $(MACHINE) = x86_64 ]; then target/bin/demo < crates/demo/stdin; else cat target/log/demo.stdout; fi
 
-test: tools toolchain layout second prove definitions compared
+test: tools toolchain layout second prove definitions $(if $(filter x86_64,$(MACHINE)),,not-)compared
 	@tail -n 1 $(GATE)
 
-# What a command needs and is not on the path, by name.
+# What a command needs and is not at hand, by name.
 tools:
-	@missing=0; for tool in $(NEEDED); do if ! command -v $$tool > /dev/null; then missing=1; case $$tool in \
-	  rt) echo "missing: rt, of the Rattle kit that TOOLCHAIN names: $$(head -n 1 TOOLCHAIN)" ;; \
-	  *) echo "missing: $$tool" ;; esac; fi; done; exit $$missing
+	@lacks() { missing=1; echo "missing: $$*"; }; missing=0; for tool in $(NEEDED); do case $$tool in \
+	  rt) command -v rt > /dev/null || lacks "rt, of the Rattle kit that TOOLCHAIN names: $$(head -n 1 TOOLCHAIN)" ;; \
+	  x86_64) [ $(MACHINE) = x86_64 ] || lacks "an x86-64 machine to link the library on; this one is $(MACHINE)" ;; \
+	  *) command -v $$tool > /dev/null || lacks $$tool ;; esac; done; exit $$missing
 
 # The toolchain that the proofs were made with is named in TOOLCHAIN; another one is said, and tried.
 toolchain: tools
@@ -75,6 +78,9 @@ compared: tools library
 	@for op in $(OPERATIONS); do compare/target/release/compare run --count 2000 --seed $(SEED) --op $$op | tee target/compare.log; \
 	  grep -qE "^$$op: [1-9][0-9]* cases, 0 differences$$" target/compare.log; done
 	@for file in vectors/*.txt; do compare/target/release/compare vectors $$file | grep agree; done
+
+not-compared:
+	@echo "not compared: the library links on x86-64 alone, and this machine is $(MACHINE)"
 
 compare: tools library
 	@compare/target/release/compare run --count $(N) --seed $(SEED)
