@@ -7,6 +7,7 @@ pub use ids::InputId;
 pub use ids::NormalId;
 pub use ids::comes_before;
 pub use ids::input_id_at;
+pub use ids::name_before;
 use numbers::read;
 use numbers::wide;
 use order::Order;

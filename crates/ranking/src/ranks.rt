@@ -17,7 +17,7 @@ use crate::tables::set_normal;
 use dictionary::InputId;
 use dictionary::Names;
 use dictionary::NormalId;
-use dictionary::comes_before;
+use dictionary::name_before;
 use marking::is_used;
 
 // Lists the used ids below a count, rising, and answers how many they are.
@@ -65,7 +65,7 @@ fn fold(metadata: &[u8], names: Names, ids: &mut [u16], ranks: &mut [u16]) -> us
     let mut i = 1;
     while i < ids.len() {
         let id = id_at(ids, i);
-        if comes_before(metadata, names, last, id) {
+        if name_before(metadata, names, last, id) {
             put_id(ids, kept, id);
             kept += 1;
         }

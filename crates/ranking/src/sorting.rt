@@ -14,7 +14,7 @@ ghost use Rattle.ranking.specs.Ranks.{Sorted};
 use crate::tables::id_at;
 use crate::tables::put_id;
 use dictionary::Names;
-use dictionary::comes_before;
+use dictionary::name_before;
 
 // The names of ids rise. A sorted dictionary says so of rising ids by its flag.
 pub fn in_order(metadata: &[u8], names: Names, ids: &[u16]) -> bool
@@ -31,7 +31,7 @@ pub fn in_order(metadata: &[u8], names: Names, ids: &[u16]) -> bool
     let mut i = 1;
     while i < ids.len() {
         let id = id_at(ids, i);
-        if comes_before(metadata, names, last, id) {
+        if name_before(metadata, names, last, id) {
             last = id;
         } else {
             return false;
@@ -71,7 +71,7 @@ fn from_first(
     if second.len() <= j {
         return true;
     }
-    !comes_before(metadata, names, id_at(second, j), id_at(first, i))
+    !name_before(metadata, names, id_at(second, j), id_at(first, i))
 }
 
 // Merges two runs of ids by their names; of equal names the first run's come first.

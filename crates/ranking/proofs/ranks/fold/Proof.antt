@@ -46,8 +46,8 @@ loop-holds c =
 id-at-requires-2 : tie.Need-id-at-requires-2 Inv-loop μ-loop
 id-at-requires-2 c κs = search needs
 
-comes-before-requires : tie.Need-comes-before-requires Inv-loop μ-loop
-comes-before-requires c κs =
+name-before-requires : tie.Need-name-before-requires Inv-loop μ-loop
+name-before-requires c κs =
     let top = c .before .before .before in
     let pre = top .before .before .before .before .before .before .before .before .before .before .before .pre in
     let seen = top .loop .inv in
@@ -89,7 +89,7 @@ loop-again c =
     let below = opened-below (pre .0) _ (pre .1) in
     let seen = top .loop .inv in
     let test = named .before .before .loop-test .taken in
-    let told = joined .before .comes-before .ensures in
+    let told = joined .before .name-before .ensures in
     ⊎-elim (λ w. fold-new seen below test _ (named .id-at2 .ensures .0) _ told (w .0 .taken) (w .5 ∙ w .2 .ensures) (w .6) (numbered .set-normal2 .ensures))
     (λ w. fold-same seen below test _ (named .id-at2 .ensures .0) _ told (w .0 .left) (w .1) (w .2) (numbered .set-normal2 .ensures)) (joined .if2 .came)
 
@@ -113,7 +113,7 @@ fold-spec =
     set-normal-requires
     loop-holds
     id-at-requires-2
-    comes-before-requires
+    name-before-requires
     put-id-requires
     add-kept
     sub-place

@@ -17,8 +17,8 @@ id-at-requires c κs = search needs
 id-at-requires-2 : tie.Need-id-at-requires-2
 id-at-requires-2 c κs = search needs
 
-comes-before-requires : tie.Need-comes-before-requires
-comes-before-requires c κs =
+name-before-requires : tie.Need-name-before-requires
+name-before-requires c κs =
     let pre = c .before .before .before .before .before .before .before .pre in (
       pre .0,
       entry-below _ _ _ _ (pre .2) (c .before .before .if2 .left) (c .before .id-at .ensures .0),
@@ -31,4 +31,4 @@ returns-3 c = search (needs, takes-lower)
 pub from-first-spec : {M : Type 1} → statement M
 from-first-spec =
     tie.close
-    (tie.spec returns returns-2 id-at-requires id-at-requires-2 comes-before-requires returns-3)
+    (tie.spec returns returns-2 id-at-requires id-at-requires-2 name-before-requires returns-3)

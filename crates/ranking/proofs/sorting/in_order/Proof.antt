@@ -29,8 +29,8 @@ loop-holds c = search (needs, ordered-start)
 id-at-requires-2 : tie.Need-id-at-requires-2 Inv-loop μ-loop
 id-at-requires-2 c κs = search needs
 
-comes-before-requires : tie.Need-comes-before-requires Inv-loop μ-loop
-comes-before-requires c κs = search (needs, ordered-below)
+name-before-requires : tie.Need-name-before-requires Inv-loop μ-loop
+name-before-requires c κs = search (needs, ordered-below)
 
 returns-3 : tie.Need-returns-3 Inv-loop μ-loop
 returns-3 c = search (needs, ordered-falls)
@@ -58,7 +58,7 @@ in-order-spec =
     id-at-requires
     loop-holds
     id-at-requires-2
-    comes-before-requires
+    name-before-requires
     returns-3
     add-i
     loop-less

@@ -10,9 +10,9 @@ document-word-spec =
     tie.close
     (tie.spec
     (λ c. search needs)
-    (λ c κs. parts-fit _ _ (rw (c .before .answer .given .1) at (c .before .before .before .pre)))
+    (λ c κs. let room = parts-fit (c .before .answer .given .0 .0) (c .before .answer .given .0 .1 .0) (rw (c .before .answer .given .1) at (c .before .before .before .pre)) in search needs)
     (λ c. search needs)
-    (λ c κs. parts-fit _ _ (rw (c .before .answer2 .given .1) at (c .before .before .before .pre)))
+    (λ c κs. let room = parts-fit (c .before .answer2 .given .0 .0) (c .before .answer2 .given .0 .1 .0) (rw (c .before .answer2 .given .1) at (c .before .before .before .pre)) in search needs)
     (λ c. search needs)
     (λ c κs. search needs)
     (λ c. c .word .ensures ∙ rw (c .before .before .answer .given .1))

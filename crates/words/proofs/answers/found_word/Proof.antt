@@ -10,7 +10,7 @@ found-word-spec =
     tie.close
     (tie.spec
     (λ c. search needs)
-    (λ c κs. parts-fit _ _ (rw (c .before .answer .given .1) at (c .before .before .before .pre)))
+    (λ c κs. let room = parts-fit (c .before .answer .given .0 .0) (c .before .answer .given .0 .1 .0) (rw (c .before .answer .given .1) at (c .before .before .before .pre)) in search needs)
     (λ c. search needs)
     (λ c κs. search needs)
     (λ c. search needs)
