@@ -34,27 +34,38 @@ struct slice {
     size_t length;
 };
 
-static uint8_t input[ROOM], output[ROOM];
+static uint8_t input[ROOM], output[1 << 16];
 static size_t input_start, input_end, output_end;
 
-/* Writes all answers that wait. */
+static void send(const uint8_t *bytes, size_t length)
+{
+    while (length > 0) {
+        long done = write(1, bytes, length);
+        if (done <= 0)
+            exit(2);
+        bytes += done;
+        length -= (size_t)done;
+    }
+}
+
+/* Writes all that waits. */
 static void flush(void)
 {
-    for (size_t done = 0; done < output_end;) {
-        long more = write(1, output + done, output_end - done);
-        if (more <= 0)
-            exit(2);
-        done += (size_t)more;
-    }
+    send(output, output_end);
     output_end = 0;
 }
 
+/* Has the bytes written, at once if they are many. */
 static void put(const void *bytes, size_t length)
 {
-    if (ROOM - output_end < length)
+    if (sizeof output - output_end < length)
         flush();
-    memmove(output + output_end, bytes, length);
-    output_end += length;
+    if (sizeof output < length) {
+        send(bytes, length);
+    } else {
+        memmove(output + output_end, bytes, length);
+        output_end += length;
+    }
 }
 
 /* The next bytes of the input, or null where it has ended. What waits is written before more is read. */
