@@ -36,10 +36,10 @@ tested = cd $(1); mkdir -p target; $(CARGO) test > target/tests.log 2>&1 || { ca
   grep -E '^(test result|warning)' target/tests.log
 
 # What each command needs.
-demo toolchain layout prove: NEEDED := rt
+demo toolchain layout prove archive served: NEEDED := rt
 definitions: NEEDED := rt python3
 second: NEEDED := cargo rustc cc
-archive served library compared compare bench: NEEDED := rt cargo rustc cc
+library compared compare bench: NEEDED := rt cargo rustc cc
 test: NEEDED := rt cargo rustc cc python3
 
 demo: tools toolchain
@@ -81,8 +81,8 @@ archive: tools
 
 # The program that serves the library, and the command that runs it: by the kit's own compiler, linker and emulator.
 served: archive
-	@for part in "$(CLANG)" "$(LINK)" "$(EMULATOR)" "$(LOADER)"; do \
-	  [ -x "$$part" ] || { echo "missing: $$part, of the Rattle kit"; exit 1; }; done
+	@missing=0; for part in "$(CLANG)" "$(LINK)" "$(EMULATOR)" "$(LOADER)"; do \
+	  [ -x "$$part" ] || { missing=1; echo "missing: $$part, of the Rattle kit"; }; done; exit $$missing
 	@mkdir -p target/serve
 	@"$(CLANG)" --target=x86_64-unknown-linux-gnu -std=c11 -O2 -Wall -Wextra -Werror -ffreestanding -nostdlibinc \
 	  -Icompare/serve/freestanding -Iinclude $(OPERATIONS:%=-DHAS_%) -c compare/serve/serve.c -o target/serve/serve.o

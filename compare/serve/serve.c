@@ -68,7 +68,7 @@ static void put(const void *bytes, size_t length)
     }
 }
 
-/* The next bytes of the input, or null where it has ended. What waits is written before more is read. */
+/* The next bytes of the input, or null where it ends before. What waits is written before more is read. */
 static uint8_t *take(size_t length)
 {
     if (length > ROOM)
@@ -91,7 +91,29 @@ static uint8_t *take(size_t length)
 
 #define LENT(at) lent[at].bytes, lent[at].length
 
-/* Calls the operation; how many numbers it gives, 0 if there is no such operation. */
+#ifdef HAS_cell
+static uint64_t call_cell(uint8_t code, const struct slice lent[4], uint64_t words[5])
+{
+    words[0] = tanvelis_cell(code, LENT(0));
+    words[1] = tanvelis_cell_first(code, LENT(0));
+    words[2] = tanvelis_cell_second(code, LENT(0));
+    return 3;
+}
+#endif
+
+#ifdef HAS_box
+static uint64_t call_box(const struct slice lent[4], uint64_t words[5])
+{
+    words[0] = tanvelis_box(LENT(0), LENT(1));
+    words[1] = tanvelis_box_east(LENT(0), LENT(1));
+    words[2] = tanvelis_box_north(LENT(0), LENT(1));
+    words[3] = tanvelis_box_south(LENT(0), LENT(1));
+    words[4] = tanvelis_box_west(LENT(0), LENT(1));
+    return 5;
+}
+#endif
+
+/* Calls the operation; how many numbers it gives, 0 if the library has no such operation. */
 static uint64_t call(uint32_t operation, uint8_t code, const struct slice lent[4], uint64_t words[5])
 {
     switch (operation) {
@@ -121,24 +143,28 @@ static uint64_t call(uint32_t operation, uint8_t code, const struct slice lent[4
         return 1;
 #endif
 #ifdef HAS_cell
-    case CELL:
-        words[0] = tanvelis_cell(code, LENT(0));
-        words[1] = tanvelis_cell_first(code, LENT(0));
-        words[2] = tanvelis_cell_second(code, LENT(0));
-        return 3;
+    case CELL: return call_cell(code, lent, words);
 #endif
 #ifdef HAS_box
-    case BOX:
-        words[0] = tanvelis_box(LENT(0), LENT(1));
-        words[1] = tanvelis_box_east(LENT(0), LENT(1));
-        words[2] = tanvelis_box_north(LENT(0), LENT(1));
-        words[3] = tanvelis_box_south(LENT(0), LENT(1));
-        words[4] = tanvelis_box_west(LENT(0), LENT(1));
-        return 5;
+    case BOX: return call_box(lent, words);
 #endif
-    default:
-        return 0;
+    default: return 0;
     }
+}
+
+/* How long a slice of a request is with the bytes around it. */
+static size_t whole(const struct request *request, uint32_t at)
+{
+    return request->lengths[at] + 2 * (size_t)request->around;
+}
+
+/* The bytes of all slices of a request. */
+static size_t all(const struct request *request)
+{
+    size_t length = 0;
+    for (uint32_t at = 0; at < request->slices; at++)
+        length += whole(request, at);
+    return length;
 }
 
 /* Takes the slices of a request, calls the operation on them, and answers. */
@@ -146,24 +172,21 @@ static void serve(const struct request *request)
 {
     struct slice lent[4] = {0};
     struct answer answer = {0};
-    size_t total = 0;
     if (request->slices > 4)
         exit(2);
-    for (uint32_t at = 0; at < request->slices; at++)
-        total += request->lengths[at] + 2 * (size_t)request->around;
-    uint8_t *bytes = take(total);
+    uint8_t *bytes = take(all(request));
     if (!bytes)
         exit(2);
     uint8_t *next = bytes + request->around;
     for (uint32_t at = 0; at < request->slices; at++) {
         lent[at] = (struct slice){next, request->lengths[at]};
-        next += request->lengths[at] + 2 * (size_t)request->around;
+        next += whole(request, at);
     }
     answer.count = call(request->operation, (uint8_t)request->code, lent, answer.words);
     if (!answer.count)
         exit(2);
     put(&answer, sizeof answer);
-    put(bytes, total);
+    put(bytes, all(request));
 }
 
 int main(void)

@@ -24,7 +24,8 @@ thread_local! {
 /// Calls the library on what is lent; all 64-bit numbers it gives.
 pub fn call(loan: &mut Loan) -> Vec<u64> {
     let answer = LIBRARY.with_borrow_mut(|library| library.answer(loan));
-    answer.unwrap_or_else(|error| panic!("no answer ({error}) to\n{}", loan.line()))
+    answer
+        .unwrap_or_else(|error| panic!("the library gave no answer ({error}) to\n{}", loan.line()))
 }
 
 /// The running program. It ends when its input does.
