@@ -82,7 +82,7 @@ archive: tools
 # The program that serves the library, and the command that runs it: by the kit's own compiler, linker and emulator.
 served: archive
 	@missing=0; for part in "$(CLANG)" "$(LINK)" "$(EMULATOR)" "$(LOADER)"; do \
-	  [ -x "$$part" ] || { missing=1; echo "missing: $$part, of the Rattle kit"; }; done; exit $$missing
+	  [ -e "$$part" ] || { missing=1; echo "missing: $$part, of the Rattle kit"; }; done; exit $$missing
 	@mkdir -p target/serve
 	@"$(CLANG)" --target=x86_64-unknown-linux-gnu -std=c11 -O2 -Wall -Wextra -Werror -ffreestanding -nostdlibinc \
 	  -Icompare/serve/freestanding -Iinclude $(OPERATIONS:%=-DHAS_%) -c compare/serve/serve.c -o target/serve/serve.o
