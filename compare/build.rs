@@ -1,15 +1,22 @@
-//! Links the proved library, if any operation of it is to be called.
+//! Links the proved library, if any operation of it is to be called. Its archive is for x86-64: built
+//! for another machine, nothing is linked, and the library is served (`src/served.rs`).
 
 use std::env;
 use std::path::{Path, PathBuf};
 
 const FOLDER: &str = "TANVELIS_LIB";
-const OPERATIONS: [&str; 7] = ["CHECK", "FIND", "NORMALISE", "SHRED", "REBUILD", "CELL", "BOX"];
+const OPERATIONS: [&str; 7] = ["check", "find", "normalise", "shred", "rebuild", "cell", "box"];
 
 fn main() {
     println!("cargo:rerun-if-changed=build.rs");
     println!("cargo:rerun-if-env-changed={FOLDER}");
-    if !OPERATIONS.iter().any(|op| env::var_os(format!("CARGO_FEATURE_{op}")).is_some()) {
+    let feature = |op: &str| format!("CARGO_FEATURE_{}", op.to_uppercase());
+    let asked: Vec<_> =
+        OPERATIONS.into_iter().filter(|op| env::var_os(feature(op)).is_some()).collect();
+    let all = OPERATIONS.map(|op| format!("\"{op}\"")).join(", ");
+    println!("cargo:rustc-check-cfg=cfg(linked, values(none(), {all}))");
+    let machine = env::var("CARGO_CFG_TARGET_ARCH").expect("cargo names the machine");
+    if asked.is_empty() || machine != "x86_64" {
         return;
     }
     let package = env::var_os("CARGO_MANIFEST_DIR").expect("cargo names the package's folder");
@@ -22,4 +29,6 @@ fn main() {
     assert!(archive.is_file(), "no {}: set {FOLDER} to the archive's folder", archive.display());
     println!("cargo:rustc-link-search=native={}", folder.display());
     println!("cargo:rustc-link-lib=static=register");
+    println!("cargo:rustc-cfg=linked");
+    asked.iter().for_each(|op| println!("cargo:rustc-cfg=linked=\"{op}\""));
 }

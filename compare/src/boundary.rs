@@ -1,16 +1,21 @@
-//! The library's C boundary (`include/tanvelis.h`), an operation for each feature.
+//! The library's C boundary (`include/tanvelis.h`), an operation for each feature: linked, or served
+//! by a program of its own where it cannot be linked.
 
 use crate::loan::Loan;
+use crate::served;
 #[allow(unused_imports)]
 use crate::word::Word;
 use second::vectors::Op;
 
-/// The operations that are linked.
+/// Whether the library is linked here; else it is served.
+pub const IS_LINKED: bool = cfg!(linked);
+
+/// The operations that the library has.
 pub fn operations() -> Vec<Op> {
     Op::ALL.into_iter().filter(|&op| exists(op)).collect()
 }
 
-/// Whether an operation is linked.
+/// Whether the library has an operation.
 pub fn exists(op: Op) -> bool {
     match op {
         Op::Check => cfg!(feature = "check"),
@@ -23,55 +28,55 @@ pub fn exists(op: Op) -> bool {
     }
 }
 
-/// Calls the library on what is lent; all 64-bit numbers it gives, the answer's word first. The
-/// operation must be linked.
+/// Calls the library on what is lent; all 64-bit numbers it gives, the answer's word first.
 pub fn call(loan: &mut Loan) -> Vec<u64> {
+    assert!(exists(loan.op), "the library has no {}", loan.op.name());
     match loan.op {
-        #[cfg(feature = "check")]
+        #[cfg(linked = "check")]
         Op::Check => {
             let [metadata, value] = loan.inputs();
             vec![check(metadata, value).0]
         }
-        #[cfg(feature = "find")]
+        #[cfg(linked = "find")]
         Op::Find => {
             let [metadata, value, path] = loan.inputs();
             vec![find(metadata, value, path).0]
         }
-        #[cfg(feature = "normalise")]
+        #[cfg(linked = "normalise")]
         Op::Normalise => {
             let ([metadata, value], [metadata_out, value_out]) = loan.parts();
             vec![normalise(metadata, value, metadata_out, value_out).0]
         }
-        #[cfg(feature = "shred")]
+        #[cfg(linked = "shred")]
         Op::Shred => {
             let ([schema, metadata, value], [row_out]) = loan.parts();
             vec![shred(schema, metadata, value, row_out).0]
         }
-        #[cfg(feature = "rebuild")]
+        #[cfg(linked = "rebuild")]
         Op::Rebuild => {
             let ([schema, row], [metadata_out, value_out]) = loan.parts();
             vec![rebuild(schema, row, metadata_out, value_out).0]
         }
-        #[cfg(feature = "cell")]
+        #[cfg(linked = "cell")]
         Op::Cell => {
             let (code, [bytes]) = (loan.code, loan.inputs());
             vec![cell(code, bytes).0, cell_first(code, bytes), cell_second(code, bytes)]
         }
-        #[cfg(feature = "box")]
+        #[cfg(linked = "box")]
         Op::Box => {
             let [metadata, value] = loan.inputs();
             let [east, north, south, west] = box_sides(metadata, value);
             vec![lot_box(metadata, value).0, east, north, south, west]
         }
         #[allow(unreachable_patterns)]
-        op => panic!("{} is not linked", op.name()),
+        _ => served::call(loan),
     }
 }
 
 /// What the library exports: a slice is a pointer and then a length.
 mod symbols {
     extern "C" {
-        #[cfg(feature = "check")]
+        #[cfg(linked = "check")]
         pub fn tanvelis_check(
             md: *const u8,
             md_len: usize,
@@ -79,7 +84,7 @@ mod symbols {
             value_len: usize,
         ) -> u64;
 
-        #[cfg(feature = "find")]
+        #[cfg(linked = "find")]
         pub fn tanvelis_find(
             md: *const u8,
             md_len: usize,
@@ -89,7 +94,7 @@ mod symbols {
             path_len: usize,
         ) -> u64;
 
-        #[cfg(feature = "normalise")]
+        #[cfg(linked = "normalise")]
         pub fn tanvelis_normalise(
             md: *const u8,
             md_len: usize,
@@ -101,7 +106,7 @@ mod symbols {
             value_out_len: usize,
         ) -> u64;
 
-        #[cfg(feature = "shred")]
+        #[cfg(linked = "shred")]
         pub fn tanvelis_shred(
             schema: *const u8,
             schema_len: usize,
@@ -113,7 +118,7 @@ mod symbols {
             row_out_len: usize,
         ) -> u64;
 
-        #[cfg(feature = "rebuild")]
+        #[cfg(linked = "rebuild")]
         pub fn tanvelis_rebuild(
             schema: *const u8,
             schema_len: usize,
@@ -126,14 +131,14 @@ mod symbols {
         ) -> u64;
     }
 
-    #[cfg(feature = "cell")]
+    #[cfg(linked = "cell")]
     extern "C" {
         pub fn tanvelis_cell(code: u8, bytes: *const u8, len: usize) -> u64;
         pub fn tanvelis_cell_first(code: u8, bytes: *const u8, len: usize) -> u64;
         pub fn tanvelis_cell_second(code: u8, bytes: *const u8, len: usize) -> u64;
     }
 
-    #[cfg(feature = "box")]
+    #[cfg(linked = "box")]
     extern "C" {
         pub fn tanvelis_box(md: *const u8, md_len: usize, value: *const u8, len: usize) -> u64;
         pub fn tanvelis_box_east(md: *const u8, md_len: usize, value: *const u8, len: usize)
@@ -158,13 +163,13 @@ mod symbols {
 // In every call below, each pointer and length are those of one slice, lent for the call only.
 
 /// Checks a Variant.
-#[cfg(feature = "check")]
+#[cfg(linked = "check")]
 pub fn check(md: &[u8], value: &[u8]) -> Word {
     Word(unsafe { symbols::tanvelis_check(md.as_ptr(), md.len(), value.as_ptr(), value.len()) })
 }
 
 /// Finds a path in a Variant.
-#[cfg(feature = "find")]
+#[cfg(linked = "find")]
 pub fn find(md: &[u8], value: &[u8], path: &[u8]) -> Word {
     Word(unsafe {
         symbols::tanvelis_find(
@@ -179,7 +184,7 @@ pub fn find(md: &[u8], value: &[u8], path: &[u8]) -> Word {
 }
 
 /// Normalises a Variant.
-#[cfg(feature = "normalise")]
+#[cfg(linked = "normalise")]
 pub fn normalise(md: &[u8], value: &[u8], md_out: &mut [u8], value_out: &mut [u8]) -> Word {
     Word(unsafe {
         symbols::tanvelis_normalise(
@@ -196,7 +201,7 @@ pub fn normalise(md: &[u8], value: &[u8], md_out: &mut [u8], value_out: &mut [u8
 }
 
 /// Shreds a Variant under a schema.
-#[cfg(feature = "shred")]
+#[cfg(linked = "shred")]
 pub fn shred(schema: &[u8], md: &[u8], value: &[u8], row_out: &mut [u8]) -> Word {
     Word(unsafe {
         symbols::tanvelis_shred(
@@ -213,7 +218,7 @@ pub fn shred(schema: &[u8], md: &[u8], value: &[u8], row_out: &mut [u8]) -> Word
 }
 
 /// Rebuilds a Variant from a row and its schema.
-#[cfg(feature = "rebuild")]
+#[cfg(linked = "rebuild")]
 pub fn rebuild(schema: &[u8], row: &[u8], md_out: &mut [u8], value_out: &mut [u8]) -> Word {
     Word(unsafe {
         symbols::tanvelis_rebuild(
@@ -230,31 +235,31 @@ pub fn rebuild(schema: &[u8], row: &[u8], md_out: &mut [u8], value_out: &mut [u8
 }
 
 /// Reads one typed cell: its kind.
-#[cfg(feature = "cell")]
+#[cfg(linked = "cell")]
 pub fn cell(code: u8, bytes: &[u8]) -> Word {
     Word(unsafe { symbols::tanvelis_cell(code, bytes.as_ptr(), bytes.len()) })
 }
 
 /// The first word of a cell.
-#[cfg(feature = "cell")]
+#[cfg(linked = "cell")]
 pub fn cell_first(code: u8, bytes: &[u8]) -> u64 {
     unsafe { symbols::tanvelis_cell_first(code, bytes.as_ptr(), bytes.len()) }
 }
 
 /// The second word of a cell.
-#[cfg(feature = "cell")]
+#[cfg(linked = "cell")]
 pub fn cell_second(code: u8, bytes: &[u8]) -> u64 {
     unsafe { symbols::tanvelis_cell_second(code, bytes.as_ptr(), bytes.len()) }
 }
 
 /// Reads a lot's box: whether there is one.
-#[cfg(feature = "box")]
+#[cfg(linked = "box")]
 pub fn lot_box(md: &[u8], value: &[u8]) -> Word {
     Word(unsafe { symbols::tanvelis_box(md.as_ptr(), md.len(), value.as_ptr(), value.len()) })
 }
 
 /// The sides of a lot's box: east, north, south, west.
-#[cfg(feature = "box")]
+#[cfg(linked = "box")]
 pub fn box_sides(md: &[u8], value: &[u8]) -> [u64; 4] {
     let sides = [
         symbols::tanvelis_box_east,

@@ -8,6 +8,7 @@ pub mod judge;
 pub mod loan;
 pub mod parts;
 pub mod run;
+pub mod served;
 pub mod sweep;
 pub mod vary;
 pub mod vectors;

@@ -46,6 +46,11 @@ impl Lent {
         &mut self.whole[self.lent.clone()]
     }
 
+    /// The slice with the bytes around it.
+    pub fn whole_mut(&mut self) -> &mut [u8] {
+        &mut self.whole
+    }
+
     /// The first byte that differs, counted from the slice's first: index, byte here, byte there.
     pub fn first_difference(&self, other: &Lent) -> Option<(isize, u8, u8)> {
         let both = self.whole.iter().zip(&other.whole);
@@ -94,6 +99,11 @@ impl Loan {
         words.extend(self.inputs.iter().map(|lent| to_hex(lent.bytes())));
         words.extend(self.outputs.iter().map(|lent| lent.bytes().len().to_string()));
         words.join(" ")
+    }
+
+    /// All slices, the inputs first.
+    pub fn slices_mut(&mut self) -> impl Iterator<Item = &mut Lent> {
+        self.inputs.iter_mut().chain(&mut self.outputs)
     }
 
     /// The inputs of an operation that has so many.

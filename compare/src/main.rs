@@ -70,7 +70,7 @@ fn asked(options: &[&str], known: &[&str]) -> Result<Asked, String> {
         }
     }
     if asked.ops.is_empty() {
-        println!("no operation of the library is linked: nothing to compare");
+        println!("no feature of an operation is on: nothing to compare");
     }
     Ok(asked)
 }
@@ -79,7 +79,7 @@ fn existing(name: &str) -> Result<Op, String> {
     let op = Op::named(name).ok_or_else(|| format!("no operation: {name}"))?;
     match boundary::exists(op) {
         true => Ok(op),
-        false => Err(format!("{name} is not linked: the feature is off")),
+        false => Err(format!("{name} is not compared: its feature is off")),
     }
 }
 
@@ -111,6 +111,13 @@ fn run_vectors(file: &str) -> Done {
 
 fn run_bench(options: &[&str]) -> Done {
     let Asked { ops, rounds, .. } = asked(options, &["--op", "--rounds"])?;
+    if !ops.is_empty() && !boundary::IS_LINKED {
+        return Err(format!(
+            "no timings: this machine ({}) runs the library under an emulator, whose times say \
+             nothing; they are taken on x86_64",
+            std::env::consts::ARCH
+        ));
+    }
     if cfg!(debug_assertions) {
         return Err("the timings of a debug build say nothing: build with --release".to_string());
     }

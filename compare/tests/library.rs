@@ -1,4 +1,4 @@
-//! The library, as far as it is linked, on a small seeded run and on the shapes that are timed.
+//! The library, linked or served, on a small seeded run and on the shapes that are timed.
 
 use compare::bench::{timed, Timed};
 use compare::boundary;

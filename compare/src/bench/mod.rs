@@ -164,23 +164,23 @@ fn median(mut times: Vec<f64>) -> f64 {
 #[allow(unused_variables)]
 fn library(case: &Case, [first, last]: &mut [Vec<u8>; 2]) -> u64 {
     match case {
-        #[cfg(feature = "check")]
+        #[cfg(linked = "check")]
         Case::Check { metadata, value } => boundary::check(metadata, value).0,
-        #[cfg(feature = "find")]
+        #[cfg(linked = "find")]
         Case::Find { metadata, value, path } => boundary::find(metadata, value, path).0,
-        #[cfg(feature = "normalise")]
+        #[cfg(linked = "normalise")]
         Case::Normalise { metadata, value, .. } => {
             boundary::normalise(metadata, value, first, last).0
         }
-        #[cfg(feature = "shred")]
+        #[cfg(linked = "shred")]
         Case::Shred { schema, metadata, value, .. } => {
             boundary::shred(schema, metadata, value, first).0
         }
-        #[cfg(feature = "rebuild")]
+        #[cfg(linked = "rebuild")]
         Case::Rebuild { schema, row, .. } => boundary::rebuild(schema, row, first, last).0,
-        #[cfg(feature = "cell")]
+        #[cfg(linked = "cell")]
         Case::Cell { code, bytes } => boundary::cell(*code, bytes).0,
-        #[cfg(feature = "box")]
+        #[cfg(linked = "box")]
         Case::Box { metadata, value } => boundary::lot_box(metadata, value).0,
         #[allow(unreachable_patterns)]
         case => panic!("{} is not linked", case.op().name()),

@@ -1,7 +1,6 @@
 // Lots read and answered, an operation each.
 use crate::reading;
 use crate::saying;
-use order::Order;
 use paper::BoxAnswer;
 use paper::CellAnswer;
 use paper::Checked;
@@ -21,19 +20,22 @@ fn check(metadata: &[u8], value: &[u8]) {
 fn find(metadata: &[u8], value: &[u8], path: &[u8]) {
     let answer = register::find(metadata, value, path);
     match answer {
-        Found::At { start, length } => saying::two(b": start ", start, b", length ", length),
+        Found::At { start, length } => {
+            saying::number(b": start ", start as u64);
+            saying::number(b", length ", length as u64);
+        }
         Found::Absent => saying::say(b": absent"),
         Found::Refused(refusal) => saying::refused(refusal),
     }
 }
 
-// Bytes that were written, against those that are given.
-fn as_given(written: &[u8], given: &[u8]) {
-    let order = order::compare(written, given);
-    match order {
-        Order::Less => saying::say(b", other bytes"),
-        Order::Equal => saying::say(b", as given"),
-        Order::Greater => saying::say(b", other bytes"),
+// What was written: its length, and whether it is what is given.
+fn written(text: &[u8], length: usize, bytes: &[u8], given: &[u8]) {
+    saying::number(text, length as u64);
+    if reading::same(bytes, given) {
+        saying::say(b", as given");
+    } else {
+        saying::say(b", other bytes");
     }
 }
 
@@ -52,14 +54,16 @@ fn normalise_into(
             metadata: first,
             value: second,
         } => {
-            saying::two(b": metadata ", first, b", value ", second);
-            as_given(metadata_out, metadata_given);
-            as_given(value_out, value_given);
+            written(b": metadata ", first, metadata_out, metadata_given);
+            written(b", value ", second, value_out, value_given);
         }
         DocumentAnswer::Short {
             metadata: first,
             value: second,
-        } => saying::two(b": 9, metadata needs ", first, b" and value ", second),
+        } => {
+            saying::number(b": 9, metadata needs ", first as u64);
+            saying::number(b" and value ", second as u64);
+        }
         DocumentAnswer::Refused(refusal) => saying::refused(refusal),
     }
 }

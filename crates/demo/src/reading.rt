@@ -36,15 +36,19 @@ fn start_of(line: &[u8], number: usize) -> usize
     at
 }
 
+// Whether two runs of bytes are the same.
+pub fn same(a: &[u8], b: &[u8]) -> bool {
+    let order = order::compare(a, b);
+    match order {
+        Order::Equal => true,
+        Order::Less | Order::Greater => false,
+    }
+}
+
 // Whether a line begins with a word.
 pub fn begins(line: &[u8], word: &[u8]) -> bool {
     let end = upto(line, 0, b' ');
-    let order = order::compare(&line[..end], word);
-    match order {
-        Order::Less => false,
-        Order::Equal => true,
-        Order::Greater => false,
-    }
+    same(&line[..end], word)
 }
 
 // What a hex digit, 0 to 9 or a to f, stands for.

@@ -1,18 +1,20 @@
 -- Lawful metadata: its rules one by one, what was read of it, and its names.
 use mathlib.Core.Bool.{Bool, true, false, cond, not, _&&_, _||_}
-use mathlib.Core.List.{List}
+use mathlib.Core.List.{List, []}
 use mathlib.Core.Option.{Option, none, some}
 use mathlib.Core.Path.{_≡_, refl, sym, ap, _∙_}
 use Prim.Native.Nat.{ℕ, _+_, _*_, _≤_, _<_}
 use native.Mathlib.Omega.{arith}
 use borrow.Author.Tests.{leb-true}
-use lib.Dec.{leb}
-use lib.ListN.{length, drop, length-drop}
+use lib.Dec.{leb, ltb}
+use lib.ListN.{length, getD, drop, length-drop}
 use Rattle.dictionary.specs.Judging.{lawfulNames, judgedOf, Opened}
 use Rattle.dictionary.specs.declared.Judged.the-variants.{Good, Broken}
 use Rattle.dictionary.specs.declared.Names.{Names}
+use Rattle.order.specs.Before.{before}
 use Rattle.paper.specs.Metadata.{Dictionary, headerGood, flagSet, offsetSize, rising, offsetsStart, nameCount, namesStart, nameOffsets, namesArea, namesIn, framed, offsetsGood, dictionaryOf}
 use Rattle.paper.specs.Words.{at, isThere, numbers}
+use Rattle.dictionary.proofs.ChainLaws.{rising-order}
 use Rattle.dictionary.proofs.NumbersRunLaws.{run-length}
 use Rattle.dictionary.proofs.OffsetLaws.{cut-length}
 use Rattle.paper.proofs.WordLaws.{there-given, there-some, given-some, and-both}
@@ -126,3 +128,6 @@ module _ {m : List ℕ} {d : Names} (o : Opened m d) where
 
   pub opened-rising : d .sorted ≡ true → rising (namesIn m) ≡ true
   opened-rising set = rw (sym (o .sorted) ∙ set) at (lawful m (o .there) .in-order)
+
+  pub sorted-before : (i j : ℕ) → d .sorted ≡ true → i < d .count → j < d .count → ltb i j ≡ before (getD (namesIn m) i []) (getD (namesIn m) j [])
+  sorted-before i j set h k = let size = opened-count in rising-order (namesIn m) i j (omega arith) (omega arith) (opened-rising set)

@@ -4,7 +4,6 @@ pub mod NumbersRunLaws
 pub mod ChainLaws
 pub mod OffsetLaws
 pub mod WalkLaws
-pub mod CompareLaws
 pub mod DictionaryLaws
 pub mod JudgeLaws
 pub mod NameLaws

@@ -10,8 +10,7 @@ ghost use Rattle.paper.specs.Metadata.{namesIn};
 ghost use Rattle.dictionary.specs.Judging.{Opened};
 use crate::Names;
 use crate::name;
-use order::Order;
-use order::compare;
+use order::is_before;
 
 // An input name id: one under lent metadata.
 pub struct InputId(pub usize);
@@ -27,20 +26,7 @@ pub fn input_id_at(s: &[u8], place: usize, width: usize) -> InputId
     InputId(numbers::read(s, place, width))
 }
 
-// The name of one id comes before that of another, by their bytes.
-pub fn name_before(metadata: &[u8], names: Names, first: InputId, second: InputId) -> bool
-    requires { ⌜ Opened (now metadata) names × (first .0 < names .count) × (second .0 < names .count) ⌝ }
-    ensures { λ r. ⌜ r ≡ before (getD (namesIn (now (metadata .entry))) (first .0) []) (getD (namesIn (now (metadata .entry))) (second .0) []) ⌝ }
-{
-    let order = compare(name(metadata, names, first), name(metadata, names, second));
-    match order {
-        Order::Less => true,
-        Order::Equal => false,
-        Order::Greater => false,
-    }
-}
-
-// The same. In a sorted dictionary, rising ids are rising names.
+// The name of one id comes before that of another. In a sorted dictionary, rising ids are rising names.
 pub fn comes_before(metadata: &[u8], names: Names, first: InputId, second: InputId) -> bool
     requires { ⌜ Opened (now metadata) names × (first .0 < names .count) × (second .0 < names .count) ⌝ }
     ensures { λ r. ⌜ r ≡ before (getD (namesIn (now (metadata .entry))) (first .0) []) (getD (namesIn (now (metadata .entry))) (second .0) []) ⌝ }
@@ -48,5 +34,5 @@ pub fn comes_before(metadata: &[u8], names: Names, first: InputId, second: Input
     if names.sorted {
         return first.0 < second.0;
     }
-    name_before(metadata, names, first, second)
+    is_before(name(metadata, names, first), name(metadata, names, second))
 }

@@ -7,11 +7,9 @@ pub use ids::InputId;
 pub use ids::NormalId;
 pub use ids::comes_before;
 pub use ids::input_id_at;
-pub use ids::name_before;
 use numbers::read;
 use numbers::wide;
-use order::Order;
-use order::compare;
+use order::is_before;
 ghost use mathlib.Core.Bool.{true};
 ghost use mathlib.Core.List.{[]};
 ghost use mathlib.Core.Path.{_≡_};
@@ -63,12 +61,7 @@ fn rises(area: &[u8], from: usize, to: usize, next: usize) -> bool
     requires { ⌜ (from ≤ to) × (to ≤ next) × (next ≤ length (now area)) ⌝ }
     ensures { λ r. ⌜ r ≡ before (part (now (area .entry)) from to) (part (now (area .entry)) to next) ⌝ }
 {
-    let order = compare(&area[from..to], &area[to..next]);
-    match order {
-        Order::Less => true,
-        Order::Equal => false,
-        Order::Greater => false,
-    }
+    is_before(&area[from..to], &area[to..next])
 }
 
 // Names rise strictly by unsigned bytes.

@@ -1,7 +1,7 @@
 // The order of byte strings: by unsigned bytes, a prefix being smaller.
 ghost use mathlib.Core.Path.{_≡_};
 ghost use Prim.Native.Nat.{_≤_};
-ghost use Rattle.order.specs.Before.{orderOf};
+ghost use Rattle.order.specs.Before.{before, orderOf};
 ghost use Rattle.order.specs.Agreed.{Agreed};
 use numbers::read8;
 
@@ -60,4 +60,16 @@ pub fn compare(a: &[u8], b: &[u8]) -> Order
         return Order::Less;
     }
     Order::Equal
+}
+
+// The first byte string comes before the second.
+pub fn is_before(a: &[u8], b: &[u8]) -> bool
+    ensures { λ r. ⌜ r ≡ before (now (a .entry)) (now (b .entry)) ⌝ }
+{
+    let order = compare(a, b);
+    match order {
+        Order::Less => true,
+        Order::Equal => false,
+        Order::Greater => false,
+    }
 }

@@ -10,6 +10,7 @@ ghost use Rattle.paper.specs.Words.{allBelow};
 ghost use Rattle.dictionary.specs.Judging.{Opened};
 ghost use Rattle.ranking.specs.Ranks.{usedIds, neverFalls, Listed, RanksOf, Folded, Ranked};
 use crate::sorting::in_order;
+use crate::sorting::name_before;
 use crate::sorting::sort;
 use crate::tables::id_at;
 use crate::tables::put_id;
@@ -17,7 +18,6 @@ use crate::tables::set_normal;
 use dictionary::InputId;
 use dictionary::Names;
 use dictionary::NormalId;
-use dictionary::name_before;
 use marking::is_used;
 
 // Lists the used ids below a count, rising, and answers how many they are.

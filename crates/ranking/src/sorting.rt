@@ -1,9 +1,10 @@
 // Ids put in the order of their names, by merging halves.
 ghost use mathlib.Core.Bool.{true};
-ghost use mathlib.Core.List.{_++_};
+ghost use mathlib.Core.List.{[], _++_};
 ghost use mathlib.Core.Path.{_≡_};
-ghost use Prim.Native.Nat.{_+_, _≤_};
-ghost use lib.ListN.{length, take, drop};
+ghost use Prim.Native.Nat.{_+_, _≤_, _<_};
+ghost use lib.ListN.{length, getD, take, drop};
+ghost use Rattle.order.specs.Before.{before};
 ghost use Rattle.paper.specs.Bounds.{mostNames};
 ghost use Rattle.paper.specs.Metadata.{namesIn, rising};
 ghost use Rattle.paper.specs.Values.{namesAt};
@@ -13,8 +14,18 @@ ghost use Rattle.ranking.specs.Merging.{takesFirst, merged};
 ghost use Rattle.ranking.specs.Ranks.{Sorted};
 use crate::tables::id_at;
 use crate::tables::put_id;
+use dictionary::InputId;
 use dictionary::Names;
-use dictionary::name_before;
+use dictionary::name;
+use order::is_before;
+
+// The name of one id comes before that of another, by their bytes: ids are sorted only where no flag gives their order.
+pub fn name_before(metadata: &[u8], names: Names, first: InputId, second: InputId) -> bool
+    requires { ⌜ Opened (now metadata) names × (first .0 < names .count) × (second .0 < names .count) ⌝ }
+    ensures { λ r. ⌜ r ≡ before (getD (namesIn (now (metadata .entry))) (first .0) []) (getD (namesIn (now (metadata .entry))) (second .0) []) ⌝ }
+{
+    is_before(name(metadata, names, first), name(metadata, names, second))
+}
 
 // The names of ids rise. A sorted dictionary says so of rising ids by its flag.
 pub fn in_order(metadata: &[u8], names: Names, ids: &[u16]) -> bool

@@ -1,0 +1,4 @@
+/* What tanvelis.h and serve.c take from this header, for a compiler that comes without headers. */
+typedef __UINT8_TYPE__ uint8_t;
+typedef __UINT32_TYPE__ uint32_t;
+typedef __UINT64_TYPE__ uint64_t;
