@@ -5,7 +5,8 @@ use std::env;
 use std::path::{Path, PathBuf};
 
 const FOLDER: &str = "TANVELIS_LIB";
-const OPERATIONS: [&str; 7] = ["check", "find", "normalise", "shred", "rebuild", "cell", "box"];
+const OPERATIONS: [&str; 8] =
+    ["check", "find", "normalise", "shred", "rebuild", "cell", "box", "judge"];
 
 fn main() {
     println!("cargo:rerun-if-changed=build.rs");

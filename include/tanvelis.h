@@ -1,6 +1,6 @@
 /*
  * Tanvelis: seven operations over lent bytes that hold Parquet Variant documents. In the library so
- * far: check, find, normalise, cell and box; shred and rebuild are declared here and follow.
+ * far: check, find, normalise, cell and box; shred, rebuild and judge are declared here and follow.
  *
  * SLICES. A slice is a pointer and then a length. `const uint8_t *` is an input and is only read;
  * `uint8_t *` is an output buffer, and its length is its room. A pointer is never null, also where
@@ -129,6 +129,14 @@ uint64_t tanvelis_rebuild(const uint8_t *schema, size_t schema_len,
                           const uint8_t *row, size_t row_len,
                           uint8_t *metadata_out, size_t metadata_out_len,
                           uint8_t *value_out, size_t value_out_len);
+
+/*
+ * Judges a row under its schema: what rebuild refuses with 1, 4, 6 or 7, by itself. Present when the row
+ * is lawful.
+ * Numbers: 0, 1, 4, 6, 7.
+ */
+uint64_t tanvelis_judge(const uint8_t *schema, size_t schema_len,
+                        const uint8_t *row, size_t row_len);
 
 /* The kinds of a cell. */
 enum {

@@ -18,7 +18,7 @@ long write(int file, const void *bytes, size_t most);
 void *memmove(void *to, const void *from, size_t length);
 _Noreturn void exit(int status);
 
-enum { CHECK, FIND, NORMALISE, SHRED, REBUILD, CELL, BOX };
+enum { CHECK, FIND, NORMALISE, SHRED, REBUILD, CELL, BOX, JUDGE };
 enum { ROOM = 1 << 22 };
 
 struct request {
@@ -147,6 +147,11 @@ static uint64_t call(uint32_t operation, uint8_t code, const struct slice lent[4
 #endif
 #ifdef HAS_box
     case BOX: return call_box(lent, words);
+#endif
+#ifdef HAS_judge
+    case JUDGE:
+        words[0] = tanvelis_judge(LENT(0), LENT(1));
+        return 1;
 #endif
     default: return 0;
     }

@@ -25,6 +25,7 @@ pub fn exists(op: Op) -> bool {
         Op::Rebuild => cfg!(feature = "rebuild"),
         Op::Cell => cfg!(feature = "cell"),
         Op::Box => cfg!(feature = "box"),
+        Op::Judge => cfg!(feature = "judge"),
     }
 }
 
@@ -67,6 +68,11 @@ pub fn call(loan: &mut Loan) -> Vec<u64> {
             let [metadata, value] = loan.inputs();
             let [east, north, south, west] = box_sides(metadata, value);
             vec![lot_box(metadata, value).0, east, north, south, west]
+        }
+        #[cfg(linked = "judge")]
+        Op::Judge => {
+            let [schema, row] = loan.inputs();
+            vec![judge(schema, row).0]
         }
         #[allow(unreachable_patterns)]
         _ => served::call(loan),
@@ -128,6 +134,14 @@ mod symbols {
             md_out_len: usize,
             value_out: *mut u8,
             value_out_len: usize,
+        ) -> u64;
+
+        #[cfg(linked = "judge")]
+        pub fn tanvelis_judge(
+            schema: *const u8,
+            schema_len: usize,
+            row: *const u8,
+            row_len: usize,
         ) -> u64;
     }
 
@@ -232,6 +246,12 @@ pub fn rebuild(schema: &[u8], row: &[u8], md_out: &mut [u8], value_out: &mut [u8
             value_out.len(),
         )
     })
+}
+
+/// Judges a row under its schema.
+#[cfg(linked = "judge")]
+pub fn judge(schema: &[u8], row: &[u8]) -> Word {
+    Word(unsafe { symbols::tanvelis_judge(schema.as_ptr(), schema.len(), row.as_ptr(), row.len()) })
 }
 
 /// Reads one typed cell: its kind.

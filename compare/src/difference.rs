@@ -48,7 +48,7 @@ pub fn right_side(loan: &Loan, words: &[u64]) -> String {
         }
     };
     match loan.op {
-        Op::Check => format!("{number}"),
+        Op::Check | Op::Judge => format!("{number}"),
         Op::Find => format!("{number} {present} {first} {second}"),
         Op::Normalise | Op::Rebuild => {
             format!("{number} {first} {second} {} {}", written(0, first), written(1, second))

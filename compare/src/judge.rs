@@ -101,6 +101,10 @@ pub fn second(loan: &mut Loan) -> Vec<u64> {
             });
             [word, sides.to_vec()].concat()
         }
+        Op::Judge => {
+            let [schema, row] = loan.inputs();
+            words(operations::judge(schema, row), |()| Word::present([0, 0]))
+        }
     }
 }
 

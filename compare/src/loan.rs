@@ -132,6 +132,7 @@ fn names(op: Op) -> (&'static [&'static str], &'static [&'static str]) {
         Op::Shred => (&["schema", "metadata", "value"], &["row_out"]),
         Op::Rebuild => (&["schema", "row"], &DOCUMENT_OUT),
         Op::Cell => (&["bytes"], &[]),
+        Op::Judge => (&["schema", "row"], &[]),
     }
 }
 

@@ -9,7 +9,7 @@ pub fn input_limits(op: Op) -> &'static [usize] {
         Op::Check | Op::Normalise | Op::Box => &[limits::METADATA, limits::VALUE],
         Op::Find => &[limits::METADATA, limits::VALUE, limits::PATH],
         Op::Shred => &[limits::SCHEMA, limits::METADATA, limits::VALUE],
-        Op::Rebuild => &[limits::SCHEMA, limits::ROW],
+        Op::Rebuild | Op::Judge => &[limits::SCHEMA, limits::ROW],
         Op::Cell => &[limits::CELL],
     }
 }
@@ -22,7 +22,7 @@ pub fn inputs(case: &Case) -> Vec<&Vec<u8>> {
         | Case::Box { metadata, value } => vec![metadata, value],
         Case::Find { metadata, value, path } => vec![metadata, value, path],
         Case::Shred { schema, metadata, value, .. } => vec![schema, metadata, value],
-        Case::Rebuild { schema, row, .. } => vec![schema, row],
+        Case::Rebuild { schema, row, .. } | Case::Judge { schema, row } => vec![schema, row],
         Case::Cell { bytes, .. } => vec![bytes],
     }
 }
@@ -41,8 +41,10 @@ pub fn input_mut(case: &mut Case, at: usize) -> &mut Vec<u8> {
         | (Case::Find { value, .. }, 1)
         | (Case::Shred { value, .. }, 2) => value,
         (Case::Find { path, .. }, 2) => path,
-        (Case::Shred { schema, .. }, 0) | (Case::Rebuild { schema, .. }, 0) => schema,
-        (Case::Rebuild { row, .. }, 1) => row,
+        (Case::Shred { schema, .. }, 0)
+        | (Case::Rebuild { schema, .. }, 0)
+        | (Case::Judge { schema, .. }, 0) => schema,
+        (Case::Rebuild { row, .. }, 1) | (Case::Judge { row, .. }, 1) => row,
         (Case::Cell { bytes, .. }, 0) => bytes,
         (case, at) => panic!("{} has no input {at}", case.op().name()),
     }
@@ -83,8 +85,22 @@ pub fn metadata_at(op: Op) -> Option<usize> {
     match op {
         Op::Check | Op::Find | Op::Normalise | Op::Box => Some(0),
         Op::Shred => Some(1),
-        Op::Rebuild | Op::Cell => None,
+        Op::Rebuild | Op::Cell | Op::Judge => None,
     }
+}
+
+/// Whether the inputs are a schema and then a row.
+pub fn has_row(op: Op) -> bool {
+    matches!(op, Op::Rebuild | Op::Judge)
+}
+
+/// A case of an operation on a row, with ample rooms. None where the operation takes no row.
+pub fn on_row(op: Op, schema: Vec<u8>, row: Vec<u8>) -> Option<Case> {
+    Some(match op {
+        Op::Rebuild => Case::Rebuild { schema, row, rooms: [20_000, 20_000] },
+        Op::Judge => Case::Judge { schema, row },
+        _ => return None,
+    })
 }
 
 /// A case of an operation on a Variant: an empty path, a leftover schema, ample rooms. None where
@@ -97,7 +113,7 @@ pub fn on_variant(op: Op, metadata: &[u8], value: &[u8]) -> Option<Case> {
         Op::Normalise => Case::Normalise { metadata, value, rooms: [300, 300] },
         Op::Shred => Case::Shred { schema: vec![0, 0, 0], metadata, value, room: 600 },
         Op::Box => Case::Box { metadata, value },
-        Op::Rebuild | Op::Cell => return None,
+        Op::Rebuild | Op::Cell | Op::Judge => return None,
     })
 }
 

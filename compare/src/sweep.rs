@@ -24,8 +24,10 @@ pub fn sweep(op: Op) -> Vec<Trial> {
     let cases = match op {
         Op::Check | Op::Normalise | Op::Box => variants(op),
         Op::Find => [variants(op), paths()].concat(),
-        Op::Shred => [variants(op), columns(), schemas_of_all_tags()].concat(),
-        Op::Rebuild => [cells_in_rows(), places()].concat(),
+        Op::Shred => [variants(op), columns(), shred_of_all_tags()].concat(),
+        Op::Rebuild | Op::Judge => {
+            [cells_in_rows(op), places(op), rows_of_all_tags(op), one_row(op)].concat()
+        }
         Op::Cell => cells(),
     };
     cases.into_iter().chain(long(op)).map(|case| Trial::new(How::Swept, case)).collect()
@@ -125,19 +127,22 @@ fn shred(schema: Vec<u8>, metadata: &[u8], value: &[u8]) -> Case {
 }
 
 /// Schemas of every tag, at the top and below.
-fn schemas_of_all_tags() -> Vec<Case> {
+fn schemas_of_all_tags() -> Vec<Vec<u8>> {
     let bodies = [vec![], vec![6], frame(0, &[]), field(b"a"), [field(b"a"), field(b"b")].concat()];
-    let mut cases = Vec::new();
+    let mut schemas = Vec::new();
     for body in &bodies {
         for tag in 0..=255 {
             let node = frame(tag, body);
-            for schema in [frame(0x20, &node), frame(0x30, &node), node.clone()] {
-                cases.push(shred(schema.clone(), &NAMES, &OBJECT));
-                cases.push(shred(schema, &NAMES, &ARRAY));
-            }
+            schemas.extend([frame(0x20, &node), frame(0x30, &node), node]);
         }
     }
-    cases
+    schemas
+}
+
+/// An object and an array under schemas of every tag.
+fn shred_of_all_tags() -> Vec<Case> {
+    let both = |schema: Vec<u8>| [&OBJECT[..], &ARRAY].map(|v| shred(schema.clone(), &NAMES, v));
+    schemas_of_all_tags().into_iter().flat_map(both).collect()
 }
 
 /// A schema field of this name, leftover only.
@@ -145,24 +150,62 @@ fn field(name: &[u8]) -> Vec<u8> {
     frame(0x31, &[frame(0x32, name), frame(0, &[])].concat())
 }
 
-fn rebuild(schema: Vec<u8>, place: &[u8]) -> Case {
+/// A case on a row with this place, under the names b and a.
+fn on_place(op: Op, schema: Vec<u8>, place: &[u8]) -> Case {
     let row = [frame(METADATA, &NAMES), place.to_vec()].concat();
-    Case::Rebuild { schema, row, rooms: [100, 200] }
+    let case = parts::on_row(op, schema, row).expect("a row");
+    parts::with_rooms(&case, &[100, 200])
+}
+
+/// Rows with an empty place, which every node allows, and with a null, under schemas of every tag and
+/// of every type code.
+fn rows_of_all_tags(op: Op) -> Vec<Case> {
+    let codes = (0..=255).map(|code| frame(0x10, &[code]));
+    let places = [frame(PLACE, &[]), frame(PLACE, &frame(LEFTOVER, &[0]))];
+    let both = |schema: Vec<u8>| places.clone().map(|place| on_place(op, schema.clone(), &place));
+    schemas_of_all_tags().into_iter().chain(codes).flat_map(both).collect()
+}
+
+/// A row of every kind of piece: each byte of it and of its schema with every value, and cut at each.
+fn one_row(op: Op) -> Vec<Case> {
+    let field = |name: &[u8], node: Vec<u8>| frame(0x31, &[frame(0x32, name), node].concat());
+    let booleans = frame(0x20, &frame(0x10, &[1]));
+    let schema = frame(0x30, &[field(b"a", booleans), field(b"b", frame(0, &[]))].concat());
+    let cell = |part: Vec<u8>| frame(PLACE, &part);
+    let list = [cell(frame(TYPED, &[1])), cell(frame(LEFTOVER, &[0]))].concat();
+    let places = [cell(frame(TYPED, &list)), cell(frame(LEFTOVER, &ARRAY))].concat();
+    let object = [frame(LEFTOVER, &[2, 1, 2, 0, 1, 0]), frame(TYPED, &places)].concat();
+    let metadata = frame(METADATA, &[0x01, 3, 0, 1, 2, 3, 0x62, 0x61, 0x63]);
+    let row = [metadata, frame(PLACE, &object)].concat();
+    let good = parts::on_row(op, schema, row).expect("a row");
+    let mut cases = vec![good.clone()];
+    for at in 0..2 {
+        let bytes = parts::inputs(&good)[at];
+        let changed =
+            (0..bytes.len()).flat_map(|at| (0..=255).map(move |byte| put(bytes, at, byte)));
+        let cut = (0..bytes.len()).map(|length| bytes[..length].to_vec());
+        for bytes in changed.chain(cut) {
+            let mut case = good.clone();
+            *parts::input_mut(&mut case, at) = bytes;
+            cases.push(case);
+        }
+    }
+    cases
 }
 
 /// Cells of every code at small lengths, in a row.
-fn cells_in_rows() -> Vec<Case> {
+fn cells_in_rows(op: Op) -> Vec<Case> {
     let mut cases = Vec::new();
     for code in 0..=22 {
         for cell in (0..=18).flat_map(fills) {
-            cases.push(rebuild(frame(0x10, &[code]), &frame(PLACE, &frame(TYPED, &cell))));
+            cases.push(on_place(op, frame(0x10, &[code]), &frame(PLACE, &frame(TYPED, &cell))));
         }
     }
     cases
 }
 
 /// Places of every tag, empty and full, under each kind of node.
-fn places() -> Vec<Case> {
+fn places(op: Op) -> Vec<Case> {
     let nodes =
         [frame(0, &[]), frame(0x10, &[1]), frame(0x20, &frame(0, &[])), frame(0x30, &field(b"a"))];
     let (null, object) = (frame(LEFTOVER, &[0]), frame(LEFTOVER, &OBJECT));
@@ -179,15 +222,16 @@ fn places() -> Vec<Case> {
         &frame(TYPED, &[]),
     ];
     let mut cases = Vec::new();
+    let mut add = |node: &[u8], place: Vec<u8>| cases.push(on_place(op, node.to_vec(), &place));
     for node in nodes {
         for one in parts {
             for tag in 0..=255 {
-                cases.push(rebuild(node.clone(), &frame(tag, one)));
-                cases.push(rebuild(node.clone(), &frame(PLACE, &frame(tag, one))));
+                add(&node, frame(tag, one));
+                add(&node, frame(PLACE, &frame(tag, one)));
             }
             for other in parts {
-                cases.push(rebuild(node.clone(), &frame(PLACE, &[one, other].concat())));
-                cases.push(rebuild(node.clone(), &[frame(PLACE, one), other.to_vec()].concat()));
+                add(&node, frame(PLACE, &[one, other].concat()));
+                add(&node, [frame(PLACE, one), other.to_vec()].concat());
             }
         }
     }
@@ -233,9 +277,9 @@ fn long(op: Op) -> Vec<Case> {
 /// A short good case with room for a long answer.
 fn short(op: Op) -> Case {
     match op {
-        Op::Rebuild => {
+        Op::Rebuild | Op::Judge => {
             let row = [frame(METADATA, &EMPTY), frame(PLACE, &frame(TYPED, b"r"))].concat();
-            Case::Rebuild { schema: frame(0x10, &[16]), row, rooms: [20_000, 20_000] }
+            parts::on_row(op, frame(0x10, &[16]), row).expect("a row")
         }
         Op::Cell => Case::Cell { code: 16, bytes: vec![] },
         _ => {
@@ -251,13 +295,13 @@ fn of_length(op: Op, at: usize, length: usize) -> Vec<u8> {
         (Op::Cell, _) => vec![b'c'; length],
         (Op::Find, 2) if length < 65_536 => frame(0x60, &vec![b'p'; length - 3]),
         (Op::Find, 2) => vec![0x60; length],
-        (Op::Shred | Op::Rebuild, 0) if length < 65_000 => schemas::of_length(length),
-        (Op::Shred | Op::Rebuild, 0) => [vec![0, 0, 0], vec![0; length - 3]].concat(),
-        (Op::Rebuild, _) if length <= limits::ROW => {
+        (Op::Shred | Op::Rebuild | Op::Judge, 0) if length < 65_000 => schemas::of_length(length),
+        (Op::Shred | Op::Rebuild | Op::Judge, 0) => [vec![0, 0, 0], vec![0; length - 3]].concat(),
+        (Op::Rebuild | Op::Judge, _) if length <= limits::ROW => {
             let typed = frame(TYPED, &vec![b'r'; length - 12]);
             [frame(METADATA, &EMPTY), frame(PLACE, &typed)].concat()
         }
-        (Op::Rebuild, _) => vec![METADATA; length],
+        (Op::Rebuild | Op::Judge, _) => vec![METADATA; length],
         (op, at) if parts::metadata_at(op) == Some(at) => rows::long_metadata(length),
         _ => text(length - 5),
     }

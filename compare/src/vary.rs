@@ -5,6 +5,7 @@ use crate::parts;
 use second::doc::{Bytes, Doc};
 use second::generate::damage::damage;
 use second::generate::docs::Made;
+use second::generate::pieces::{harm, HARMS};
 use second::generate::schemas::{encoded, schema_for, MadeNode};
 use second::generate::{good_variant, path_into, rows, Rng, Variant};
 use second::normal::{normal, Normal};
@@ -27,6 +28,7 @@ pub enum How {
     Good,
     Odd,
     Damaged,
+    Harmed,
     Cut,
     Longer,
     Rooms,
@@ -43,6 +45,7 @@ impl fmt::Display for How {
             How::Good => "its document in normal form",
             How::Odd => "its document encoded otherwise",
             How::Damaged => "an input damaged",
+            How::Harmed => "a piece of an input harmed",
             How::Cut => "an input cut",
             How::Longer => "an input one byte longer",
             How::Rooms => "other rooms",
@@ -73,7 +76,9 @@ impl Trial {
 pub fn variations(case: &Case, rng: &mut Rng) -> Vec<Trial> {
     let mut trials = vec![Trial::new(How::Generated, case.clone())];
     match case {
-        Case::Rebuild { schema, row, .. } => rows(case, schema, row, rng, &mut trials),
+        Case::Rebuild { schema, row, .. } | Case::Judge { schema, row } => {
+            rows(case, schema, row, rng, &mut trials);
+        }
         Case::Cell { code, .. } => codes(case, *code, rng, &mut trials),
         _ => encodings(case, rng, &mut trials),
     }
@@ -83,6 +88,9 @@ pub fn variations(case: &Case, rng: &mut Rng) -> Vec<Trial> {
     for at in 0..parts::inputs(case).len() {
         damaged(case, at, rng, &mut trials);
         cuts(case, at, rng, &mut trials);
+    }
+    if parts::has_row(case.op()) {
+        harmed(case, rng, &mut trials);
     }
     trials
 }
@@ -110,6 +118,16 @@ fn encodings(case: &Case, rng: &mut Rng, trials: &mut Vec<Trial>) {
             trials.push(Trial::new(How::Schema, with_input(case, 0, schema)));
         }
         _ => {}
+    }
+}
+
+/// Pieces of the row and of the schema harmed.
+fn harmed(case: &Case, rng: &mut Rng, trials: &mut Vec<Trial>) {
+    for at in [0, 1, 1, 1] {
+        let mut bytes = parts::inputs(case)[at].clone();
+        let how = rng.pick(&HARMS);
+        harm(rng, how, &mut bytes);
+        trials.push(Trial::new(How::Harmed, with_input(case, at, bytes)));
     }
 }
 
@@ -277,7 +295,8 @@ mod tests {
         assert_eq!(ways(Op::Find), on(&[Good, Odd, Path]));
         assert_eq!(ways(Op::Normalise), on(&[Good, Odd, Rooms]));
         assert_eq!(ways(Op::Shred), on(&[Good, Odd, Schema, Rooms]));
-        assert_eq!(ways(Op::Rebuild), on(&[Good, Odd, Rooms]));
+        assert_eq!(ways(Op::Rebuild), on(&[Good, Odd, Harmed, Rooms]));
+        assert_eq!(ways(Op::Judge), on(&[Good, Odd, Harmed]));
         assert_eq!(ways(Op::Cell), on(&[Code]));
     }
 

@@ -53,7 +53,7 @@ pub fn cell_of<'d>(code: u8, doc: &'d Doc) -> Option<Bytes<'d>> {
 }
 
 /// String and binary have any length, a boolean is `00` or `01`, the others have their size.
-fn judge(code: u8, bytes: &[u8]) -> Result<(), Broken> {
+pub fn judge(code: u8, bytes: &[u8]) -> Result<(), Broken> {
     let good = match SIZES[usize::from(code)] {
         _ if code == TRUE => matches!(bytes, [0 | 1]),
         Size::Fixed(size) => bytes.len() == size,

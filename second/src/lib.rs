@@ -1,10 +1,12 @@
-//! A second program for the seven operations on register Variants, written from the statement
-//! alone, to judge another library by. It shares no code with that library.
+//! A second program for the seven operations on register Variants, and for the judgement of a row by
+//! itself, written from the statement alone, to judge another library by. It shares no code with that
+//! library.
 
 pub mod bytes;
 pub mod cell;
 pub mod doc;
 pub mod generate;
+pub mod judge;
 pub mod limits;
 pub mod lotbox;
 pub mod metadata;

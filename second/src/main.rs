@@ -121,19 +121,28 @@ fn cases(options: &[&str]) -> Done {
             }
         }
         if stats {
-            let counts: Vec<_> = counts.iter().map(|(class, n)| format!("{class}: {n}")).collect();
-            writeln!(out, "{}: {}", op.name(), counts.join(", ")).map_err(told)?;
+            writeln!(out, "{}: {}", op.name(), shares(&counts, count)).map_err(told)?;
         }
     }
     out.flush().map_err(told)?;
     Ok(true)
 }
 
+/// How many answers there are of each class, and how many of a hundred.
+fn shares(counts: &BTreeMap<String, usize>, all: usize) -> String {
+    let share = |(class, &count): (&String, &usize)| {
+        format!("{class}: {count} ({:.1} %)", 100.0 * count as f64 / all as f64)
+    };
+    counts.iter().map(share).collect::<Vec<_>>().join(", ")
+}
+
 /// The number of an answer; absent and the broken rule are told apart.
 fn class(answer: &Answer) -> String {
     match answer {
         Answer::Find(Ok(None)) | Answer::Box(Ok(None)) => "0 absent".to_string(),
-        Answer::Rebuild(Err(Refusal::Rule(rule))) => format!("7{}", letter(*rule)),
+        Answer::Rebuild(Err(Refusal::Rule(rule))) | Answer::Judge(Err(Refusal::Rule(rule))) => {
+            format!("7{}", letter(*rule))
+        }
         _ => answer.number().to_string(),
     }
 }

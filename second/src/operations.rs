@@ -1,10 +1,11 @@
-//! "The job": the seven operations over lent bytes.
+//! "The job": the seven operations over lent bytes, and the judgement of a row by itself.
 //!
 //! Where several refusals apply, the lowest number is given; so each operation judges its inputs
 //! in the order of the numbers.
 
 use crate::cell::{read_cell, Cell};
 use crate::doc::Doc;
+use crate::judge;
 use crate::limits;
 use crate::lotbox::{read_box, LotBox};
 use crate::metadata::Dictionary;
@@ -74,6 +75,17 @@ pub fn rebuild(
 ) -> Result<Lengths, Refusal> {
     let made = rebuilt(schema, row)?;
     give_document(&made, metadata_out, value_out)
+}
+
+/// Judges a row by itself: what rebuild refuses with 1, 4, 6 or 7.
+pub fn judge(schema: &[u8], row: &[u8]) -> Result<(), Refusal> {
+    at_most(schema, limits::SCHEMA)?;
+    at_most(row, limits::ROW)?;
+    let schema = read_schema(schema)?;
+    match judge::judge(&schema, row).map_err(|Broken| Refusal::Row)? {
+        Some(rule) => Err(Refusal::Rule(rule)),
+        None => Ok(()),
+    }
 }
 
 /// Reads one typed cell.
@@ -193,6 +205,7 @@ pub fn answer(case: &Case) -> Answer {
         }
         Case::Cell { code, bytes } => Answer::Cell(cell(*code, bytes)),
         Case::Box { metadata, value } => Answer::Box(lot_box(metadata, value)),
+        Case::Judge { schema, row } => Answer::Judge(judge(schema, row)),
     }
 }
 

@@ -18,21 +18,21 @@ pub const TYPED: u8 = 0x42;
 pub const PLACE: u8 = 0x50;
 
 /// A row that parses under its schema.
-#[derive(Debug, PartialEq, Eq)]
+#[derive(Clone, Debug, PartialEq, Eq)]
 pub struct Row<'a> {
     pub names: Dictionary<'a>,
     pub place: Place<'a>,
 }
 
 /// A place: at most one leftover, and at most one typed field.
-#[derive(Debug, PartialEq, Eq)]
+#[derive(Clone, Debug, PartialEq, Eq)]
 pub struct Place<'a> {
     pub leftover: Option<Doc<'a>>,
     pub typed: Option<Typed<'a>>,
 }
 
 /// A typed field, of the kind of its node.
-#[derive(Debug, PartialEq, Eq)]
+#[derive(Clone, Debug, PartialEq, Eq)]
 pub enum Typed<'a> {
     Primitive(Doc<'a>),
     List(Vec<Place<'a>>),

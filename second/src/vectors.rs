@@ -9,7 +9,7 @@ use crate::operations;
 use crate::refusal::{Lengths, Refusal};
 use std::fmt;
 
-/// The seven operations.
+/// The seven operations, and the judgement of a row by itself.
 #[derive(Clone, Copy, Debug, PartialEq, Eq, PartialOrd, Ord)]
 pub enum Op {
     Check,
@@ -19,11 +19,12 @@ pub enum Op {
     Rebuild,
     Cell,
     Box,
+    Judge,
 }
 
 impl Op {
-    pub const ALL: [Op; 7] =
-        [Op::Check, Op::Find, Op::Normalise, Op::Shred, Op::Rebuild, Op::Cell, Op::Box];
+    pub const ALL: [Op; 8] =
+        [Op::Check, Op::Find, Op::Normalise, Op::Shred, Op::Rebuild, Op::Cell, Op::Box, Op::Judge];
 
     /// Its name in a line.
     pub fn name(self) -> &'static str {
@@ -35,6 +36,7 @@ impl Op {
             Op::Rebuild => "rebuild",
             Op::Cell => "cell",
             Op::Box => "box",
+            Op::Judge => "judge",
         }
     }
 
@@ -52,6 +54,7 @@ impl Op {
             Op::Shred => &[0, 1, 2, 3, 4, 8, 9],
             Op::Rebuild => &[0, 1, 4, 6, 7, 8, 9],
             Op::Cell => &[0, 1, 4, 6],
+            Op::Judge => &[0, 1, 4, 6, 7],
         }
     }
 }
@@ -66,6 +69,7 @@ pub enum Case {
     Rebuild { schema: Vec<u8>, row: Vec<u8>, rooms: Lengths },
     Cell { code: u8, bytes: Vec<u8> },
     Box { metadata: Vec<u8>, value: Vec<u8> },
+    Judge { schema: Vec<u8>, row: Vec<u8> },
 }
 
 /// The answer to a case: what the operation gives, and the bytes it wrote.
@@ -78,6 +82,7 @@ pub enum Answer {
     Rebuild(Result<Written, Refusal>),
     Cell(Result<Cell, Refusal>),
     Box(Result<Option<LotBox>, Refusal>),
+    Judge(Result<(), Refusal>),
 }
 
 /// The metadata and the value that an operation wrote.
@@ -98,6 +103,7 @@ impl Case {
             Case::Rebuild { .. } => Op::Rebuild,
             Case::Cell { .. } => Op::Cell,
             Case::Box { .. } => Op::Box,
+            Case::Judge { .. } => Op::Judge,
         }
     }
 
@@ -140,6 +146,7 @@ impl Case {
             },
             Op::Cell => Case::Cell { code: words.number()?, bytes: words.bytes()? },
             Op::Box => Case::Box { metadata: words.bytes()?, value: words.bytes()? },
+            Op::Judge => Case::Judge { schema: words.bytes()?, row: words.bytes()? },
         })
     }
 
@@ -164,6 +171,7 @@ impl Case {
                 format!("{op} {} {} {} {}", to_hex(schema), to_hex(row), rooms[0], rooms[1])
             }
             Case::Cell { code, bytes } => format!("{op} {code} {}", to_hex(bytes)),
+            Case::Judge { schema, row } => format!("{op} {} {}", to_hex(schema), to_hex(row)),
         }
     }
 }
@@ -190,7 +198,7 @@ impl Answer {
             answer.as_ref().err().map_or(0, Refusal::number)
         }
         match self {
-            Answer::Check(answer) => of(answer),
+            Answer::Check(answer) | Answer::Judge(answer) => of(answer),
             Answer::Find(answer) => of(answer),
             Answer::Normalise(answer) | Answer::Rebuild(answer) => of(answer),
             Answer::Shred(answer) => of(answer),
@@ -205,7 +213,7 @@ impl fmt::Display for Answer {
     fn fmt(&self, f: &mut fmt::Formatter) -> fmt::Result {
         write!(f, "{}", self.number())?;
         match self {
-            Answer::Check(_) => Ok(()),
+            Answer::Check(_) | Answer::Judge(_) => Ok(()),
             Answer::Find(Ok(Some(span))) => write!(f, " 1 {} {}", span.start, span.length),
             Answer::Find(_) => write!(f, " 0 0 0"),
             Answer::Normalise(answer) | Answer::Rebuild(answer) => write_document(f, answer),
@@ -277,6 +285,7 @@ mod tests {
             "rebuild 000000 - 0 1",
             "cell 255 00ff",
             "box - 00",
+            "judge 000000 -",
         ];
         for line in lines {
             assert_eq!(Case::parse(line).unwrap().line(), line);
@@ -313,5 +322,7 @@ mod tests {
         assert_eq!(right("cell 2 00"), "4 none 0");
         assert_eq!(right("box 010000 00"), "0 0 0 0 0 0");
         assert_eq!(right("box 010000 -"), "3 0 0 0 0 0");
+        assert_eq!(right("judge 000000 400300010000500000"), "0");
+        assert_eq!(right("judge 000000 -"), "6");
     }
 }

@@ -5,7 +5,7 @@ mod common;
 use common::{frame, hex, metadata_of, nested, number, over_two, string_of};
 use second::operations::Span;
 use second::operations::{
-    cell, check, find, lot_box, normalise, rebuild, rebuilt, shred, shredded,
+    cell, check, find, judge, lot_box, normalise, rebuild, rebuilt, shred, shredded,
 };
 use second::refusal::Refusal;
 
@@ -170,6 +170,24 @@ fn rebuild_refuses() {
     assert_eq!(rebuild_number(TEXT_COLUMN, &text(65_523), [0, 0]), 8, "a row of 65,535");
     assert_eq!(rebuild_number(ANY, &null, [3, 0]), 9);
     assert_eq!(rebuild_number(ANY, &null, [2, 1]), 9);
+}
+
+#[test]
+fn the_judge_refuses() {
+    let judged = |schema: &[u8], row: &[u8]| number(judge(schema, row));
+    let null = row_of(&frame(0x41, NULL));
+    let text = |length: usize| row_of(&frame(0x42, &vec![b't'; length]));
+    assert_eq!(judged(ANY, &null), 0);
+    assert_eq!(judged(&schema_of(4_096), &null), 0);
+    assert_eq!(judged(&schema_of(4_097), &null), 1);
+    assert_eq!(judged(&schema_of(4_097), &[]), 1);
+    assert_eq!(judged(&[], &vec![0; 65_536]), 1);
+    assert_eq!(judged(&[], &[]), 4);
+    assert_eq!(judged(ANY, &[]), 6);
+    assert_eq!(judged(ANY, &vec![0; 65_535]), 6);
+    let both = row_of(&[frame(0x41, NULL), frame(0x42, b"")].concat());
+    assert_eq!(judged(TEXT_COLUMN, &both), 7);
+    assert_eq!(judged(TEXT_COLUMN, &text(65_523)), 0, "no 8: a row of 65,535");
 }
 
 #[test]

@@ -4,7 +4,7 @@ mod common;
 
 use common::{frame, hex, metadata_of, nested, string_of};
 use second::normal::Normal;
-use second::operations::rebuilt;
+use second::operations::{judge, rebuilt as made};
 use second::refusal::{Refusal, Rule};
 
 /// Names a, b, c.
@@ -17,6 +17,13 @@ const LIST: &str = "20 04 00 10 01 00 01";
 /// A row under the names a, b, c.
 fn row(place: &str) -> Vec<u8> {
     [frame(0x40, &hex(ABC)), frame(0x50, &hex(place))].concat()
+}
+
+/// What a row is rebuilt to; the judge must refuse it alike.
+fn rebuilt(schema: &[u8], row: &[u8]) -> Result<Normal, Refusal> {
+    let answer = made(schema, row);
+    assert_eq!(judge(schema, row), answer.as_ref().map(|_| ()).map_err(|refusal| *refusal));
+    answer
 }
 
 fn answer(schema: &str, place: &str) -> Result<Normal, Refusal> {

@@ -1,5 +1,6 @@
 //! Both programs timed on the same inputs, in one run, by turns.
 
+pub mod rows;
 pub mod shapes;
 
 use crate::boundary;
@@ -69,11 +70,16 @@ fn length(case: &Case) -> usize {
 pub fn timed(op: Op) -> Vec<Timed> {
     match op {
         Op::Cell => cells(),
+        Op::Judge => {
+            // Shredding writes one row for all layouts of a document.
+            let documents = shapes().into_iter().filter(|shape| !shape.is_odd());
+            documents.filter_map(|shape| on_shape(op, shape)).chain(rows::rows()).collect()
+        }
         _ => shapes().into_iter().filter_map(|shape| on_shape(op, shape)).collect(),
     }
 }
 
-fn on_shape(op: Op, Shape { name, doc, metadata, value }: Shape) -> Option<Timed> {
+fn on_shape(op: Op, Shape { name, doc, metadata, value, .. }: Shape) -> Option<Timed> {
     let rooms = [limits::ROW, limits::VALUE];
     let schema = || encoded(&schema_for(&mut Rng::new(1), &doc));
     let case = match op {
@@ -85,6 +91,11 @@ fn on_shape(op: Op, Shape { name, doc, metadata, value }: Shape) -> Option<Timed
             let schema = schema();
             let row = operations::shredded(&schema, &metadata, &value).ok()?;
             Case::Rebuild { schema, row, rooms }
+        }
+        Op::Judge => {
+            let schema = schema();
+            let row = operations::shredded(&schema, &metadata, &value).ok()?;
+            Case::Judge { schema, row }
         }
         Op::Box => Case::Box { metadata, value },
         Op::Cell => return None,
@@ -182,6 +193,8 @@ fn library(case: &Case, [first, last]: &mut [Vec<u8>; 2]) -> u64 {
         Case::Cell { code, bytes } => boundary::cell(*code, bytes).0,
         #[cfg(linked = "box")]
         Case::Box { metadata, value } => boundary::lot_box(metadata, value).0,
+        #[cfg(linked = "judge")]
+        Case::Judge { schema, row } => boundary::judge(schema, row).0,
         #[allow(unreachable_patterns)]
         case => panic!("{} is not linked", case.op().name()),
     }
@@ -201,6 +214,7 @@ fn second(case: &Case, [first, last]: &mut [Vec<u8>; 2]) -> u64 {
         Case::Rebuild { schema, row, .. } => of(operations::rebuild(schema, row, first, last)),
         Case::Cell { code, bytes } => of(operations::cell(*code, bytes)),
         Case::Box { metadata, value } => of(operations::lot_box(metadata, value)),
+        Case::Judge { schema, row } => of(operations::judge(schema, row)),
     }
 }
 
@@ -219,8 +233,9 @@ mod tests {
         for op in Op::ALL {
             let all = timed(op);
             assert!(all.len() > 5, "{}", op.name());
-            for Timed { shape, case } in all.iter().filter(|timed| timed.shape != "wrong size") {
-                assert_eq!(answer(case).number(), 0, "{}, {shape}", op.name());
+            for Timed { shape, case } in all {
+                let is_refused = shape.contains("wrong size") || shape.contains("refused");
+                assert_eq!(answer(&case).number() != 0, is_refused, "{}, {shape}", op.name());
             }
         }
     }

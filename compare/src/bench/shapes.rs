@@ -51,8 +51,16 @@ impl Layout {
 pub struct Shape {
     pub name: String,
     pub doc: Made,
+    layout: Layout,
     pub metadata: Vec<u8>,
     pub value: Vec<u8>,
+}
+
+impl Shape {
+    /// Whether it is written otherwise than with names sorted and values in order.
+    pub fn is_odd(&self) -> bool {
+        self.layout != Layout::Sorted
+    }
 }
 
 /// All documents that are timed.
@@ -97,7 +105,7 @@ pub fn shapes() -> Vec<Shape> {
 
 fn shape(name: String, doc: Made, unused: &[Vec<u8>], layout: Layout) -> Shape {
     let (metadata, value) = encode(&doc, unused, layout);
-    Shape { name, doc, metadata, value }
+    Shape { name, doc, layout, metadata, value }
 }
 
 fn payload(kind: u8, bytes: &[u8]) -> Made {
@@ -144,11 +152,13 @@ fn flat(count: usize) -> Made {
     object((0..count).map(field).collect())
 }
 
-fn one_letter(number: usize) -> Vec<u8> {
+/// A name of one byte.
+pub fn one_letter(number: usize) -> Vec<u8> {
     vec![number as u8]
 }
 
-fn two_letters(number: usize) -> Vec<u8> {
+/// A name of two bytes; they rise as their numbers do.
+pub fn two_letters(number: usize) -> Vec<u8> {
     vec![(number / 256) as u8, (number % 256) as u8]
 }
 
@@ -158,9 +168,12 @@ fn numbered(count: usize, name: impl Fn(usize) -> Vec<u8>) -> Made {
 }
 
 /// Names of 100 bytes that differ in the last ones only.
+pub fn like_name(number: usize) -> Vec<u8> {
+    format!("{}{number:03}", "n".repeat(97)).into_bytes()
+}
+
 fn alike(count: usize) -> Made {
-    let name = |number: usize| format!("{}{number:03}", "n".repeat(97)).into_bytes();
-    object((0..count).map(|number| (name(number), int8(number))).collect())
+    object((0..count).map(|number| (like_name(number), int8(number))).collect())
 }
 
 /// So many levels, all but the innermost objects, each with a number beside the next.
@@ -220,7 +233,7 @@ pub fn middle(doc: &Made) -> Vec<u8> {
 }
 
 /// Metadata and value of a document, with further names in its dictionary.
-fn encode(doc: &Made, unused: &[Vec<u8>], layout: Layout) -> (Vec<u8>, Vec<u8>) {
+pub fn encode(doc: &Made, unused: &[Vec<u8>], layout: Layout) -> (Vec<u8>, Vec<u8>) {
     let mut names = Vec::new();
     names_used(doc, &mut names);
     names.sort();
@@ -237,7 +250,8 @@ fn encode(doc: &Made, unused: &[Vec<u8>], layout: Layout) -> (Vec<u8>, Vec<u8>) 
     (metadata(&names, layout.is_sorted()), value)
 }
 
-fn metadata(names: &[Vec<u8>], is_sorted: bool) -> Vec<u8> {
+/// Metadata of these names as they stand, of the smallest sizes.
+pub fn metadata(names: &[Vec<u8>], is_sorted: bool) -> Vec<u8> {
     let area = names.concat();
     let size = size_of_number(area.len().max(names.len()));
     let mut out = vec![0x01 | u8::from(is_sorted) << 4 | (size as u8 - 1) << 6];
@@ -309,7 +323,7 @@ mod tests {
 
     #[test]
     fn shapes_are_good_and_of_their_size() {
-        for Shape { name, doc, metadata, value } in shapes() {
+        for Shape { name, doc, metadata, value, .. } in shapes() {
             assert_eq!(document(&metadata, &value).as_ref(), Ok(&doc), "{name}");
             let size = match name.starts_with("small") {
                 true => 125..160,

@@ -79,8 +79,13 @@ pub fn doc(rng: &mut Rng) -> Made {
 
 /// A container, or rarely a scalar, of about so many values.
 pub fn tree(rng: &mut Rng, values: usize) -> Made {
+    tree_at(rng, values, 1)
+}
+
+/// A scalar or a container of about so many values, that may stand at this level.
+pub fn tree_at(rng: &mut Rng, values: usize, level: usize) -> Made {
     let mut left = rng.between(1, values);
-    grow(rng, &mut left, 1)
+    grow(rng, &mut left, level)
 }
 
 fn grow(rng: &mut Rng, left: &mut usize, level: usize) -> Made {
@@ -122,12 +127,26 @@ pub fn numbered(number: usize) -> Vec<u8> {
 
 /// A value without children, of any type.
 pub fn scalar(rng: &mut Rng) -> Made {
-    match rng.below(SIZES.len()) as u8 {
+    let kind = rng.below(SIZES.len()) as u8;
+    of_type(rng, kind)
+}
+
+/// A value of this type.
+fn of_type(rng: &mut Rng, kind: u8) -> Made {
+    match kind {
         NULL => Doc::Null,
         TRUE => Doc::Bool(true),
         FALSE => Doc::Bool(false),
         STRING => Doc::Text(text(rng).into()),
         kind => Doc::Payload(kind, payload(rng, kind).into()),
+    }
+}
+
+/// A value that a column of this type takes.
+pub fn of_column(rng: &mut Rng, code: u8) -> Made {
+    match code {
+        TRUE => Doc::Bool(rng.percent(50)),
+        kind => of_type(rng, kind),
     }
 }
 

@@ -97,6 +97,11 @@ impl Names {
         out
     }
 
+    /// Whether a name is among them.
+    pub fn has(&self, name: &[u8]) -> bool {
+        self.ids.contains_key(name)
+    }
+
     fn id(&self, rng: &mut Rng, name: &[u8]) -> usize {
         let ids = &self.ids[name];
         ids[rng.below(ids.len())]

@@ -3,8 +3,12 @@
 pub mod damage;
 pub mod docs;
 pub mod encode;
+pub mod kinds;
+pub mod pieces;
+pub mod places;
 pub mod rng;
 pub mod rows;
+pub mod rules;
 pub mod schemas;
 
 pub use rng::Rng;
@@ -21,6 +25,7 @@ use crate::vectors::{Case, Op};
 use damage::{damage, spoil_metadata};
 use docs::Made;
 use encode::{names_used, Encoder, Names, FAULTS};
+use kinds::Lent;
 use schemas::{encoded, schema_for};
 
 /// A case of this operation.
@@ -39,6 +44,10 @@ pub fn case(op: Op, rng: &mut Rng) -> Case {
             let doc = if rng.percent(75) { docs::lot(rng) } else { docs::doc(rng) };
             let Variant { metadata, value } = variant(rng, &doc);
             Case::Box { metadata, value }
+        }
+        Op::Judge => {
+            let Lent { schema, row } = kinds::any(rng);
+            Case::Judge { schema, row }
         }
     }
 }
@@ -259,43 +268,10 @@ fn many_places(rng: &mut Rng) -> (Vec<u8>, Variant) {
 }
 
 fn rebuild_case(rng: &mut Rng) -> Case {
-    let (schema, row) = schema_and_row(rng);
+    let Lent { schema, row } = kinds::any(rng);
     let made = operations::rebuilt(&schema, &row);
     let needed = made.map_or([5, 5], |made| [made.metadata.len(), made.value.len()]);
     Case::Rebuild { schema, row, rooms: rooms(rng, needed) }
-}
-
-fn schema_and_row(rng: &mut Rng) -> (Vec<u8>, Vec<u8>) {
-    if rng.permille(4) {
-        let (node, row) = rows::large(rng);
-        return (encoded(&node), row);
-    }
-    let doc = docs::doc(rng);
-    let node = schema_for(rng, &doc);
-    let schema = encoded(&node);
-    let row = match rng.below(100) {
-        0..=29 => shredded_row(rng, &schema, &doc),
-        30..=59 => rows::lawful(rng, &node, &doc),
-        60..=76 => rows::unlawful(rng, &node, &doc),
-        77..=92 => rows::unparsed(rng, &node, &doc),
-        _ => {
-            let mut row = rows::lawful(rng, &node, &doc);
-            damage(rng, &mut row);
-            row
-        }
-    };
-    match rng.below(400) {
-        0 => (schema, vec![0x40; limits::ROW + rng.below(2)]),
-        1 => (schemas::of_length(limits::SCHEMA + rng.below(2)), row),
-        2..=17 => (schemas::broken(rng, &node), row),
-        18..=21 => (encoded(&schemas::any(rng, 1)), row),
-        _ => (schema, row),
-    }
-}
-
-fn shredded_row(rng: &mut Rng, schema: &[u8], doc: &Made) -> Vec<u8> {
-    let Variant { metadata, value } = good_variant(rng, doc);
-    operations::shredded(schema, &metadata, &value).unwrap_or_default()
 }
 
 fn cell_case(rng: &mut Rng) -> Case {

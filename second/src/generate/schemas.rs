@@ -2,6 +2,7 @@
 
 use super::damage::damage;
 use super::docs::{self, Made};
+use super::pieces::{harm, HARMS};
 use super::rng::Rng;
 use crate::bytes::push_frame;
 use crate::doc::{Bytes, Doc};
@@ -101,6 +102,49 @@ pub fn deep(rng: &mut Rng, levels: usize) -> MadeNode {
     })
 }
 
+/// A good node with others inside, of about so many.
+pub fn branching(rng: &mut Rng, level: usize, most: &mut usize) -> MadeNode {
+    if *most == 0 || level == limits::LEVELS || level > 1 && rng.percent(30) {
+        return any(rng, limits::LEVELS);
+    }
+    *most -= 1;
+    if rng.percent(40) {
+        return Node::List(Box::new(branching(rng, level + 1, most)));
+    }
+    let names = (0..rng.between(1, 4)).map(|_| docs::name(rng));
+    let names: Vec<_> = names.collect();
+    object(names.into_iter().map(|name| (name, branching(rng, level + 1, most))).collect())
+}
+
+/// A good schema of so many fields, at most 400: in one object as far as they fit, or in two.
+pub fn wide(rng: &mut Rng, fields: usize) -> MadeNode {
+    let in_two = fields > 390 || fields.is_multiple_of(3);
+    let mut object = |count: usize| {
+        // There is no room for a type code in each of so many.
+        let mut leaf = |at: usize| match fields <= 340 || at < 30 {
+            true => any(rng, limits::LEVELS),
+            false => Node::Leftover,
+        };
+        Node::Object((0..count).map(|at| (wide_name(at).into(), leaf(at))).collect())
+    };
+    match in_two {
+        true => {
+            let both = [b"one", b"two"].map(|name| (name[..].into(), object(fields / 2)));
+            Node::Object(both.to_vec())
+        }
+        false => object(fields),
+    }
+}
+
+/// The shortest names that rise as their numbers do, up to 400.
+fn wide_name(at: usize) -> Vec<u8> {
+    match at {
+        0 => vec![],
+        1..=250 => vec![at as u8 - 1],
+        _ => vec![250, (at - 251) as u8],
+    }
+}
+
 /// A good schema of so many bytes, above 12 and below 65,000.
 pub fn of_length(length: usize) -> Vec<u8> {
     encoded(&Node::Object(vec![(vec![b's'; length - 12].into(), Node::Leftover)]))
@@ -109,7 +153,7 @@ pub fn of_length(length: usize) -> Vec<u8> {
 /// A schema that is broken in most cases.
 pub fn broken(rng: &mut Rng, node: &MadeNode) -> Vec<u8> {
     let mut out = encoded(node);
-    match rng.below(12) {
+    match rng.below(15) {
         0 => frame(0x10, &[rng.pick(&[0, 2, 8, 9, 10, 21, 63, 255])]),
         1 => frame(0x10, rng.pick(&[&[][..], &[6, 6]])),
         2 => frame(0x20, rng.pick(&[&[][..], &[0, 0, 0, 0, 0, 0]])),
@@ -122,8 +166,13 @@ pub fn broken(rng: &mut Rng, node: &MadeNode) -> Vec<u8> {
             out
         }
         8 => frame(0x00, &[0]),
-        _ => {
+        9 | 10 => {
             damage(rng, &mut out);
+            out
+        }
+        _ => {
+            let how = rng.pick(&HARMS);
+            harm(rng, how, &mut out);
             out
         }
     }
