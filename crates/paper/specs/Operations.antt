@@ -12,9 +12,9 @@ use Rattle.paper.specs.Metadata.{Dictionary, dictionaryOf}
 use Rattle.paper.specs.Meaning.{Doc}
 use Rattle.paper.specs.Values.{Child, meaningOf}
 use Rattle.paper.specs.Normal.{Document, normalForm}
-use Rattle.paper.specs.Schemas.{columnOf, schemaOf}
+use Rattle.paper.specs.Schemas.{Schema, columnOf, schemaOf}
 use Rattle.paper.specs.Cells.{cellMeaning, handedOut}
-use Rattle.paper.specs.Rows.{rowOf}
+use Rattle.paper.specs.Rows.{Row, rowOf}
 use Rattle.paper.specs.Rules.{rowLawful}
 use Rattle.paper.specs.Shredding.{rowBytes}
 use Rattle.paper.specs.Rebuilding.{rowMeaning}
@@ -49,9 +49,9 @@ unfoldable pub checkOutcome : List ℕ → List ℕ → Outcome Doc
 checkOutcome metadata value =
     require (documentFits metadata value) TooLong (judged metadata value λ names d. reached d)
 
-unfoldable pub checkedBy : Outcome Doc → Checked
+unfoldable pub checkedBy : {A : Type 0} → Outcome A → Checked
 checkedBy (refused r) = Checked.Refused r
-checkedBy (reached d) = Checked.Good
+checkedBy (reached a) = Checked.Good
 
 unfoldable pub checkAnswer : List ℕ → List ℕ → Checked
 checkAnswer metadata value = checkedBy (checkOutcome metadata value)
@@ -127,14 +127,23 @@ unfoldable pub rowWritten : Outcome (List ℕ) → (room : ℕ) → List ℕ
 rowWritten (refused r) room = []
 rowWritten (reached row) room = cond (leb (length row) room) row []
 
--- ---- rebuild
+-- ---- a lent row judged under a lent schema: 1, 4, 6 and then 7, and what comes of its node and what it holds
 
-unfoldable pub rebuildOutcome : List ℕ → List ℕ → Outcome Document
-rebuildOutcome schema row =
+unfoldable pub rowJudged : {A : Type 0} → List ℕ → List ℕ → (Schema → Row → Outcome A) → Outcome A
+rowJudged schema row next =
     require (leb (length schema) mostSchema && leb (length row) mostRow) TooLong
     (obtain (schemaOf schema) BadSchema λ node.
     obtain (rowOf node row) BadRow λ parsed.
-    require (rowLawful node parsed) BrokenRule (written (rowMeaning node parsed)))
+    require (rowLawful node parsed) BrokenRule (next node parsed))
+
+-- The judgement by itself.
+unfoldable pub judgeAnswer : List ℕ → List ℕ → Checked
+judgeAnswer schema row = checkedBy (rowJudged schema row λ node parsed. reached parsed)
+
+-- ---- rebuild
+
+unfoldable pub rebuildOutcome : List ℕ → List ℕ → Outcome Document
+rebuildOutcome schema row = rowJudged schema row λ node parsed. written (rowMeaning node parsed)
 
 -- ---- one typed cell: "the type codes are those of a schema"
 
