@@ -4,3 +4,4 @@ pub mod DocumentAnswers
 pub mod NormaliseLaws
 pub mod FoundLaws
 pub mod OneAnswer
+pub mod RowAnswers

@@ -11,7 +11,7 @@ ghost use Rattle.paper.specs.Limits.{mostLevels};
 ghost use Rattle.paper.specs.Metadata.{namesIn};
 ghost use Rattle.normalise.specs.Answered.{Answered};
 ghost use Rattle.numbers.specs.Little.{putAt};
-ghost use Rattle.paper.specs.Operations.{normaliseOutcome, documentAnswer, metadataWritten, valueWritten, checkAnswer, findAnswer, foundBy, cellAnswer, boxAnswer};
+ghost use Rattle.paper.specs.Operations.{normaliseOutcome, documentAnswer, metadataWritten, valueWritten, checkAnswer, findAnswer, judgeAnswer, foundBy, cellAnswer, boxAnswer};
 ghost use Rattle.paper.specs.Paths.{pathOf, findFrom};
 ghost use Rattle.paper.specs.Refusals.{obtain, reached};
 ghost use Rattle.paper.specs.Values.{meaningOf};
@@ -27,6 +27,7 @@ use paper::Checked;
 use paper::DocumentAnswer;
 use paper::Found;
 use paper::Refusal;
+use rows::RowJudged;
 use words::Side;
 
 // ---- check
@@ -113,6 +114,37 @@ pub extern "C" fn tanvelis_normalise(
     ensures { λ r. ⌜ (r ≡ documentWord (documentAnswer (normaliseOutcome (now (metadata .entry)) (now (value .entry))) (length (now («metadata_out» .entry))) (length (now («value_out» .entry))))) × (now («metadata_out» .exit) ≡ putAt (now («metadata_out» .entry)) 0 (metadataWritten (normaliseOutcome (now (metadata .entry)) (now (value .entry))) (length (now («metadata_out» .entry))) (length (now («value_out» .entry))))) × (now («value_out» .exit) ≡ putAt (now («value_out» .entry)) 0 (valueWritten (normaliseOutcome (now (metadata .entry)) (now (value .entry))) (length (now («metadata_out» .entry))) (length (now («value_out» .entry))))) ⌝ }
 {
     words::document_word(normalise(metadata, value, metadata_out, value_out))
+}
+
+// ---- a row judged
+
+// Judges a row under a schema, as rebuild does before it writes: 1, 4, 6 and 7.
+pub fn judge(schema: &[u8], row: &[u8]) -> Checked
+    ensures { λ r. ⌜ r ≡ judgeAnswer (now (schema .entry)) (now (row .entry)) ⌝ }
+{
+    if paper::MOST_SCHEMA < schema.len() {
+        return Checked::Refused(Refusal::TooLong);
+    }
+    if paper::MOST_ROW < row.len() {
+        return Checked::Refused(Refusal::TooLong);
+    }
+    if !schemas::good(schema) {
+        return Checked::Refused(Refusal::BadSchema);
+    }
+    let mut table = [0u16; 456];
+    let judged = rows::judge(schema, row, &mut table);
+    match judged {
+        RowJudged::Lawful(_) => Checked::Good,
+        RowJudged::Broken => Checked::Refused(Refusal::BrokenRule),
+        RowJudged::Unparsed => Checked::Refused(Refusal::BadRow),
+    }
+}
+
+#[no_mangle]
+pub extern "C" fn tanvelis_judge(schema: &[u8], row: &[u8]) -> u64
+    ensures { λ r. ⌜ r ≡ checkedWord (judgeAnswer (now (schema .entry)) (now (row .entry))) ⌝ }
+{
+    words::checked_word(judge(schema, row))
 }
 
 // ---- a lot's box

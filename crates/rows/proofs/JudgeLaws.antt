@@ -24,18 +24,18 @@ use Rattle.names.proofs.FewLaws.{names-few}
 use Rattle.paper.proofs.WordLaws.{never, there-some}
 use Rattle.schemas.specs.Positions.{Stands}
 use Rattle.schemas.proofs.StandingLaws.{schema-stands}
-use Rattle.rows.proofs.HalfLaws.{Halves, halved, unhalved, metadata-size, row-other-tag, row-long-metadata, row-bad-metadata, row-other-place, row-place}
-use Rattle.rows.specs.Halves.{halvesOf}
+use Rattle.places.proofs.HalfLaws.{Halves, halved, unhalved, metadata-size, row-other-tag, row-long-metadata, row-bad-metadata, row-other-place, row-place}
+use Rattle.places.specs.Halves.{halvesOf}
 use Rattle.rows.specs.Judging.{metadataOf, outermostOf, InOrder, OpenedAs, opened as openedRow, unopened, RowReady, Walked, HandedOn, verdictIn, JudgedAs}
-use Rattle.rows.specs.Verdicts.{placeVerdict, rowVerdict}
-use Rattle.rows.specs.Walking.{NodeReady}
+use Rattle.places.specs.Verdicts.{placeVerdict, rowVerdict}
+use Rattle.places.specs.Walking.{NodeReady}
 use Rattle.rows.specs.declared.judging.Opening.the-variants.{At, Cut}
 use Rattle.rows.specs.declared.judging.Opening.{Opening}
 use Rattle.rows.specs.declared.judging.RowJudged.the-variants as judged
 use Rattle.rows.specs.declared.judging.RowJudged.{RowJudged}
 use Rattle.rows.specs.declared.judging.RowParts.{RowParts}
-use Rattle.rows.specs.declared.verdicts.Verdict.the-variants.{Lawful, Broken, Unparsed}
-use Rattle.rows.specs.declared.verdicts.Verdict.{Verdict}
+use Rattle.places.specs.declared.verdicts.Verdict.the-variants.{Lawful, Broken, Unparsed}
+use Rattle.places.specs.declared.verdicts.Verdict.{Verdict}
 
 -- ---- a row opened
 

@@ -39,13 +39,13 @@ use Rattle.paper.proofs.WordLaws.{never}
 use Rattle.schemas.proofs.FieldsStandLaws.{FirstField, FieldStands, first-field, no-field, one-list}
 use Rattle.schemas.proofs.KindLaws.{kind-there, leftover-here, column-here, list-here, object-here}
 use Rattle.schemas.proofs.StandingLaws.{ListStands, ObjectStands, one-stands, some-level}
-use Rattle.rows.proofs.StepLaws.{place-cut, place-ends, place-fits, elements-ended, elements-cut, elements-next, members-ended, members-more, members-few, members-cut, members-next}
-use Rattle.rows.proofs.VerdictLaws.{typed-list, typed-fields, worse-unparsed, worse-lawful, worse-assoc}
-use Rattle.rows.specs.Frames.{placeEnd, placeFrame}
-use Rattle.rows.specs.Verdicts.{verdictOf, typedUnder, typedLawful, typedVerdict, placeVerdict, elementsVerdict, membersVerdict, worse, brokenIf}
-use Rattle.rows.specs.Walking.{NodeReady, FieldsReady, LeftReady, isNowhere}
-use Rattle.rows.specs.declared.verdicts.Verdict.the-variants.{Lawful, Broken, Unparsed}
-use Rattle.rows.specs.declared.verdicts.Verdict.{Verdict}
+use Rattle.places.proofs.StepLaws.{place-cut, place-ends, place-fits, elements-ended, elements-cut, elements-next, members-ended, members-more, members-few, members-cut, members-next}
+use Rattle.places.proofs.VerdictLaws.{typed-list, typed-fields, worse-unparsed, worse-lawful, worse-assoc}
+use Rattle.places.specs.Frames.{placeEnd, placeFrame}
+use Rattle.places.specs.Verdicts.{verdictOf, typedUnder, typedLawful, typedVerdict, placeVerdict, elementsVerdict, membersVerdict, worse, brokenIf}
+use Rattle.places.specs.Walking.{NodeReady, FieldsReady, LeftReady, isNowhere}
+use Rattle.places.specs.declared.verdicts.Verdict.the-variants.{Lawful, Broken, Unparsed}
+use Rattle.places.specs.declared.verdicts.Verdict.{Verdict}
 
 -- What the rules of a leftover are judged by.
 pub left-ready : {levels : ℕ} {readings metadata : List ℕ} {names : Names} {s table : List ℕ} {place : ℕ} → NodeReady levels readings metadata names s table place
@@ -188,19 +188,6 @@ nowhere-is : {names : Dictionary} {name : List ℕ} {looked : Looked} → Tells 
 unfolding isNowhere
 nowhere-is {names} (found id below is) = sym (ap not (ap (λ (n : List ℕ). among n names) (sym is) ∙ among-at names (id .0) below))
 nowhere-is (missing none-has) = rw none-has
-
-pub not-present : (present : Bool) (looked : Looked) → not present ≡ true → false ≡ (present && isNowhere looked)
-not-present false looked e = refl
-not-present true looked e = never (sym e)
-
-module _ (present : Bool) (looked : Looked) (yes : not present ≡ false) (r : Looked) (is : r ≡ looked) where
-  pub named-there : (id : InputId) → r ≡ At id → false ≡ (present && isNowhere looked)
-  unfolding isNowhere
-  named-there id e = rw (not-false present yes, ← is, e)
-
-  pub named-nowhere : r ≡ Nowhere → true ≡ (present && isNowhere looked)
-  unfolding isNowhere
-  named-nowhere e = rw (not-false present yes, ← is, e)
 
 present-is : (inner end : ℕ) → inner ≤ end → ltb inner end ≡ not (eqb inner end)
 present-is inner end h = go (eqb inner end) refl

@@ -12,14 +12,14 @@ use Rattle.paper.specs.Limits.{mostMetadata, mostRow, mostLevels}
 use Rattle.paper.specs.Metadata.{namesIn}
 use Rattle.paper.specs.Schemas.{Schema, schemaOf}
 use Rattle.paper.specs.Words.{part, isThere}
-use Rattle.rows.specs.Verdicts.{placeVerdict, rowVerdict}
+use Rattle.places.specs.Verdicts.{placeVerdict, rowVerdict}
 use Rattle.rows.specs.declared.judging.Opening.{Opening}
 use Rattle.rows.specs.declared.judging.Opening.the-variants.{At, Cut}
 use Rattle.rows.specs.declared.judging.RowJudged.{RowJudged}
 use Rattle.rows.specs.declared.judging.RowJudged.the-variants as judged
 use Rattle.rows.specs.declared.judging.RowParts.{RowParts}
-use Rattle.rows.specs.declared.verdicts.Verdict.{Verdict}
-use Rattle.rows.specs.declared.verdicts.Verdict.the-variants.{Lawful, Broken, Unparsed}
+use Rattle.places.specs.declared.verdicts.Verdict.{Verdict}
+use Rattle.places.specs.declared.verdicts.Verdict.the-variants.{Lawful, Broken, Unparsed}
 
 -- The bytes of a row's metadata, and those that its outermost place holds.
 abbrev pub metadataOf : List ℕ → RowParts → List ℕ

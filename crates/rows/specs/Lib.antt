@@ -1,8 +1,2 @@
--- What a row comes to under its schema, place by place.
-pub mod Verdicts
-pub mod Parts
-pub mod Frames
-pub mod Halves
-pub mod Leftovers
-pub mod Walking
+-- A row opened and judged.
 pub mod Judging

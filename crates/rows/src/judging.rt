@@ -7,12 +7,12 @@ ghost use Rattle.paper.specs.Limits.{mostRow};
 ghost use Rattle.paper.specs.Schemas.{schemaOf};
 ghost use Rattle.paper.specs.Words.{isThere};
 ghost use Rattle.rows.specs.Judging.{OpenedAs, RowReady, Walked, JudgedAs};
-use crate::halves::halves;
-use crate::verdicts::Verdict;
 use crate::walker::place;
 use dictionary::Judged;
 use dictionary::Names;
 use frames::Frame;
+use places::Verdict;
+use places::row_halves;
 
 // What was read of a row: its metadata's frame ends at `middle`, where its outermost place starts, and the dictionary is
 // opened. Each schema field's id in it is in the table that was lent.
@@ -38,7 +38,7 @@ pub enum RowJudged {
 fn open_row(row: &[u8]) -> Opening
     ensures { λ r. ⌜ OpenedAs (now (row .entry)) r ⌝ }
 {
-    let Frame::Ends(middle) = halves(row) else {
+    let Frame::Ends(middle) = row_halves(row) else {
         return Opening::Cut;
     };
     if row[0] != 0x40 {

@@ -8,7 +8,7 @@ use borrow.Fn.PlainCycle.{Measures}
 use lib.ListN.{length, length-take, length-drop}
 use Rattle.paper.specs.Metadata.{namesIn}
 use Rattle.numbers.proofs.Cycle.{given-at, asked-below}
-use Rattle.rows.proofs.PlaceLaws.{told-by, one-long, typed-long, both-long, place-empty, place-unframed, place-left, place-typed, place-both}
+use Rattle.places.proofs.PlaceLaws.{told-by, one-long, typed-long, both-long, place-empty, place-unframed, place-left, place-typed, place-both}
 use Rattle.rows.proofs.WalkLaws.{left-ready, typed-none, typed-cell, typed-elements, typed-members, ready-kind, ready-level, ready-frame, ready-code, ready-element, ready-fields, ListSeen, list-start, list-done, list-cut, list-fits, list-next, FieldsSeen, fields-start, fields-more, fields-done, field-node-in, field-frame-in, field-entry, field-ready, fields-few, fields-cut, fields-fit, fields-next}
 use Rattle.rows.proofs.walker.list_places.Reads as list-places
 use Rattle.rows.proofs.walker.list_places.Kinds as list-places-kinds
@@ -23,14 +23,14 @@ use Rattle.rows.proofs.walker.typed.Reads as typed
 use Rattle.rows.proofs.walker.typed.Kinds as typed-kinds
 use Rattle.rows.proofs.walker.+list_places+object_places+place+typed.Lts-typed as typed-lts
 use Rattle.cells.proofs.good.Reads as good-reads
-use Rattle.rows.proofs.frame.place_frame.Reads as place-frame-reads
-use Rattle.rows.proofs.leftovers.alone.Reads as alone-reads
-use Rattle.rows.proofs.leftovers.beside.Reads as beside-reads
-use Rattle.rows.proofs.parts.split.Reads as split-reads
-use Rattle.rows.proofs.rules.nameless.Reads as nameless-reads
-use Rattle.rows.proofs.verdicts.broken_if.Reads as broken-if-reads
-use Rattle.rows.proofs.verdicts.parsed.Reads as parsed-reads
-use Rattle.rows.proofs.verdicts.worse.Reads as worse-reads
+use Rattle.places.proofs.place_frame.Reads as place-frame-reads
+use Rattle.places.proofs.alone.Reads as alone-reads
+use Rattle.places.proofs.beside.Reads as beside-reads
+use Rattle.places.proofs.split.Reads as split-reads
+use Rattle.places.proofs.nameless.Reads as nameless-reads
+use Rattle.places.proofs.broken_if.Reads as broken-if-reads
+use Rattle.places.proofs.parsed.Reads as parsed-reads
+use Rattle.places.proofs.worse.Reads as worse-reads
 use Rattle.schemas.proofs.field_node.Reads as field-node-reads
 use Rattle.schemas.proofs.frame_end.Reads as frame-end-reads
 use Rattle.schemas.proofs.kind_at.Reads as kind-at-reads

@@ -1,9 +1,0 @@
--- `place_frame`: by the tag, then by the frame.
-use borrow.Author.Needs.{needs}
-use Rattle.rows.proofs.StepLaws.{place-other, place-framed}
-use Rattle.rows.proofs.frame.place_frame.Statement.{statement}
-use Rattle.rows.proofs.frame.place_frame.Tie as tie
-
-pub place-frame-spec : {M : Type 1} → statement M
-place-frame-spec =
-    tie.close (tie.spec (λ c. search needs) (λ c. search place-other) (λ c κs. search needs) (λ c. search place-framed))
