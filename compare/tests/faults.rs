@@ -159,6 +159,21 @@ fn the_further_words_of_the_readers() {
 }
 
 #[test]
+fn a_judge_that_refuses_what_only_rebuild_does() {
+    fn wrong(loan: &mut Loan) -> Vec<u64> {
+        let [schema, row] = loan.inputs();
+        match second::operations::rebuilt(schema, row) {
+            Ok(_) => vec![0x100],
+            Err(refusal) => vec![u64::from(refusal.number())],
+        }
+    }
+    assert!(run(&wrong, Op::Judge, 0, 11, &mut |_| {}).differences > 0, "swept");
+    let mut total = Count::default();
+    generated(&wrong, Op::Judge, 600, 11, &mut total, &mut |_| {});
+    assert!(total.differences > 0, "generated");
+}
+
+#[test]
 fn reading_behind_the_input() {
     fn wrong(loan: &mut Loan) -> Vec<u64> {
         let words = second(loan);

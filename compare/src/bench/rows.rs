@@ -7,6 +7,7 @@ use second::bytes::push_frame;
 use second::doc::Doc;
 use second::generate::docs;
 use second::generate::schemas::{encoded, MadeNode};
+use second::generate::Rng;
 use second::limits;
 use second::row::{LEFTOVER, METADATA, PLACE, TYPED};
 use second::schema::Node;
@@ -34,9 +35,11 @@ fn none() -> Vec<u8> {
     metadata(&[], true)
 }
 
-/// Names in falling order.
-fn falling(names: &[Vec<u8>]) -> Vec<u8> {
-    metadata(&names.iter().rev().cloned().collect::<Vec<_>>(), false)
+/// Names in no order.
+fn shuffled(names: &[Vec<u8>]) -> Vec<u8> {
+    let mut names = names.to_vec();
+    Rng::new(1).shuffle(&mut names);
+    metadata(&names, false)
 }
 
 /// A list of as many of these elements as a row has room for.
@@ -70,16 +73,16 @@ fn fields(present: usize, missing: usize) -> Vec<u8> {
 fn small() -> Vec<Timed> {
     let names: Vec<_> = (0..10).map(two_letters).collect();
     let (column, flags) = (Node::Primitive(6), list(Node::Primitive(1)));
-    let (rising, falling) = (metadata(&names, true), falling(&names));
+    let (sorted, unsorted) = (metadata(&names, true), shuffled(&names));
     let beside = [frame(LEFTOVER, &[0x02, 1, 9, 0, 1, 0]), fields(9, 0)].concat();
     vec![
         timed("small row, int64", &column, &none(), &frame(TYPED, &[34; 8])),
         timed("small row, int8 left over", &column, &none(), &frame(LEFTOVER, &[0x0C, 34])),
         timed("small row, empty place", &column, &none(), &[]),
         timed("small list of booleans", &flags, &none(), &frame(TYPED, &boolean().repeat(17))),
-        timed("small object, names sorted", &object(&names), &rising, &fields(10, 0)),
-        timed("small object, names unsorted", &object(&names), &falling, &fields(10, 0)),
-        timed("small object, leftover beside", &object(&names[..9]), &rising, &beside),
+        timed("small object, names sorted", &object(&names), &sorted, &fields(10, 0)),
+        timed("small object, names unsorted", &object(&names), &unsorted, &fields(10, 0)),
+        timed("small object, leftover beside", &object(&names[..9]), &sorted, &beside),
     ]
 }
 
@@ -146,10 +149,10 @@ fn dictionaries() -> Vec<Timed> {
     };
     vec![
         row("4,000 names, sorted", &spread, metadata(&thousands, true)),
-        row("4,000 names, unsorted", &spread, falling(&thousands)),
-        row("5,000 names, 200 of them different", &letters, falling(&repeats)),
+        row("4,000 names, unsorted", &spread, shuffled(&thousands)),
+        row("5,000 names, 200 of them different", &letters, shuffled(&repeats)),
         row("like names, sorted", &alike[..37], metadata(&alike, true)),
-        row("like names, unsorted", &alike[..37], falling(&alike)),
+        row("like names, unsorted", &alike[..37], shuffled(&alike)),
     ]
 }
 

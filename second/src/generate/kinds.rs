@@ -3,7 +3,7 @@
 use super::damage::damage;
 use super::docs::{self, Made};
 use super::pieces::{harm, HARMS};
-use super::places::{self, left, MadePlace};
+use super::places::{self, left, typed};
 use super::rng::Rng;
 use super::rows::{long_metadata, unparsed_and_unlawful, unparsed_plan, written, Side};
 use super::rules::{Plan, RULES};
@@ -14,7 +14,7 @@ use crate::doc::Doc;
 use crate::limits;
 use crate::operations;
 use crate::refusal::Rule;
-use crate::row::{Place, Typed, LEFTOVER, METADATA, PLACE, TYPED};
+use crate::row::{Typed, LEFTOVER, METADATA, PLACE, TYPED};
 use crate::schema::Node;
 
 /// A schema and a row as they are lent.
@@ -166,7 +166,7 @@ fn plan(rng: &mut Rng) -> Plan {
     Plan::new(node, place)
 }
 
-/// A schema: small in most cases, else deep or of many fields.
+/// A schema: small in most cases, else of one node, deep, or of many fields.
 fn any_node(rng: &mut Rng) -> MadeNode {
     within_limit(rng, |rng| match rng.below(100) {
         0..=5 => {
@@ -177,6 +177,7 @@ fn any_node(rng: &mut Rng) -> MadeNode {
             let fields = rng.pick(&[40, 120, 255, 256, 257, 340, 400]);
             schemas::wide(rng, fields)
         }
+        9..=14 => schemas::any(rng, limits::LEVELS),
         _ => {
             let mut most = rng.between(1, 8);
             schemas::branching(rng, 1, &mut most)
@@ -211,7 +212,7 @@ fn within_limit(rng: &mut Rng, make: impl Fn(&mut Rng) -> MadeNode) -> MadeNode 
 }
 
 /// A plan that breaks this rule, and the number of the place that does.
-pub fn unlawful(rng: &mut Rng, rule: Rule) -> (Plan, usize) {
+fn unlawful(rng: &mut Rng, rule: Rule) -> (Plan, usize) {
     loop {
         let mut plan = plan(rng);
         if let Some(number) = plan.break_rule(rng, rule) {
@@ -221,7 +222,7 @@ pub fn unlawful(rng: &mut Rng, rule: Rule) -> (Plan, usize) {
 }
 
 /// A row with a fault on this side of a place that breaks a rule.
-pub fn both(rng: &mut Rng, side: Side) -> Lent {
+fn both(rng: &mut Rng, side: Side) -> Lent {
     loop {
         let rule = rng.pick(&RULES);
         let (plan, number) = unlawful(rng, rule);
@@ -235,12 +236,8 @@ fn text(length: usize) -> Made {
     Doc::Text(vec![b'l'; length].into())
 }
 
-fn typed(typed: Typed<'static>) -> MadePlace {
-    Place { leftover: None, typed: Some(typed) }
-}
-
 /// A row whose normal value is too large, or nearly so.
-pub fn large(rng: &mut Rng) -> Lent {
+fn large(rng: &mut Rng) -> Lent {
     let column = Node::Primitive(16);
     let (node, place) = match rng.below(3) {
         0 => (column, typed(Typed::Primitive(text(limits::VALUE - 5 + rng.below(3))))),
@@ -361,7 +358,6 @@ mod tests {
 
     #[test]
     fn every_rule_is_broken_at_every_depth() {
-        use Stand::*;
         for rule in RULES {
             let mut rng = Rng::new(32);
             let mut stands = BTreeSet::new();
@@ -371,7 +367,7 @@ mod tests {
                 let Lent { schema, row } = lent(&mut rng, &plan);
                 assert_eq!(judge(&schema, &row), Err(Refusal::Rule(rule)));
             }
-            assert_eq!(stands, BTreeSet::from([Outermost, InList, InObject, InBoth]), "{rule:?}");
+            assert_eq!(stands, BTreeSet::from(Stand::ALL), "{rule:?}");
         }
     }
 

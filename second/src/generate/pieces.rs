@@ -34,6 +34,7 @@ pub enum Harm {
     ByteChanged,
 }
 
+/// All of them.
 pub const HARMS: [Harm; 11] = [
     Harm::Tag,
     Harm::Longer,

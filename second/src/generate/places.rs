@@ -17,15 +17,18 @@ pub type MadePlace = Place<'static>;
 
 type MadeField = (Bytes<'static>, MadeNode);
 
+/// An empty place.
 pub fn empty() -> MadePlace {
     Place { leftover: None, typed: None }
 }
 
+/// A place with a leftover alone.
 pub fn left(doc: Made) -> MadePlace {
     Place { leftover: Some(doc), typed: None }
 }
 
-fn typed(typed: Typed<'static>) -> MadePlace {
+/// A place with a typed field alone.
+pub fn typed(typed: Typed<'static>) -> MadePlace {
     Place { leftover: None, typed: Some(typed) }
 }
 
@@ -164,6 +167,8 @@ pub enum Stand {
 }
 
 impl Stand {
+    pub const ALL: [Stand; 4] = [Stand::Outermost, Stand::InList, Stand::InObject, Stand::InBoth];
+
     fn below(self, node: &MadeNode) -> Stand {
         let below = if matches!(node, Node::List(_)) { Stand::InList } else { Stand::InObject };
         match self {

@@ -36,6 +36,7 @@ pub enum Fault {
     Behind,
 }
 
+/// All faults of rows.
 pub const FAULTS_OF_ROWS: [Fault; 14] = [
     Fault::TypedUnderLeftover,
     Fault::CellSize,
@@ -378,7 +379,7 @@ mod tests {
     use super::*;
     use crate::generate::docs;
     use crate::generate::places::Stand;
-    use crate::generate::schemas::{branching, encoded, schema_for};
+    use crate::generate::schemas::{any, branching, encoded, schema_for};
     use crate::operations::{judge, rebuilt};
     use crate::refusal::Refusal;
     use std::collections::BTreeSet;
@@ -389,7 +390,10 @@ mod tests {
             let mut rng = Rng::new(23);
             let mut stands = BTreeSet::new();
             for _ in 0..1_000 {
-                let node = branching(&mut rng, 1, &mut 5);
+                let node = match rng.percent(15) {
+                    true => any(&mut rng, limits::LEVELS),
+                    false => branching(&mut rng, 1, &mut 5),
+                };
                 let place = places::of_schema(&mut rng, &node, 1, &mut 20);
                 let plan = Plan::new(node, place);
                 let able =
@@ -399,15 +403,7 @@ mod tests {
                 let row = written(&mut rng, &plan, Some((fault, site.number)));
                 assert_eq!(judge(&encoded(&plan.node), &row), Err(Refusal::Row), "{fault:?}");
             }
-            use Stand::*;
-            let wanted = match fault {
-                // The outermost node has others inside.
-                Fault::TypedUnderLeftover | Fault::CellSize | Fault::BoolContent => {
-                    BTreeSet::from([InList, InObject, InBoth])
-                }
-                _ => BTreeSet::from([Outermost, InList, InObject, InBoth]),
-            };
-            assert_eq!(stands, wanted, "{fault:?}");
+            assert_eq!(stands, BTreeSet::from(Stand::ALL), "{fault:?}");
         }
     }
 

@@ -1,7 +1,7 @@
 //! Plans of rows, and how one breaks a rule a to f: at any depth that it has.
 
 use super::docs;
-use super::places::{left, names_left, names_present, place_mut, sites, MadePlace, Site};
+use super::places::{empty, left, names_left, names_present, place_mut, sites, MadePlace, Site};
 use super::rng::Rng;
 use super::schemas::MadeNode;
 use crate::doc::Doc;
@@ -10,6 +10,7 @@ use crate::row::Typed;
 use crate::schema::Node;
 use std::collections::BTreeSet;
 
+/// All rules.
 pub const RULES: [Rule; 6] = [Rule::A, Rule::B, Rule::C, Rule::D, Rule::E, Rule::F];
 
 /// What a row is written from.
@@ -97,7 +98,7 @@ fn break_at(rng: &mut Rng, rule: Rule, node: &MadeNode, level: usize, place: &mu
             *place = left(docs::object(fields));
         }
         (Rule::E, _, Some(Typed::List(places))) => {
-            places.insert(rng.below(places.len() + 1), super::places::empty());
+            places.insert(rng.below(places.len() + 1), empty());
         }
         _ => {}
     }
