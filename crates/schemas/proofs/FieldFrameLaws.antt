@@ -6,9 +6,7 @@ use Prim.Native.Nat.{ℕ, _+_, _≤_}
 use native.Mathlib.Omega.{arith}
 use borrow.Author.Tests.{eq-eqb, ne-eqb, not-true, not-false}
 use lib.ListN.{length}
-use Rattle.dictionary.proofs.CompareLaws.{isLess, compared}
-use Rattle.order.specs.Before.{orderOf}
-use Rattle.order.specs.declared.Order.{Order}
+use Rattle.order.specs.Before.{before}
 use Rattle.paper.specs.Words.{at}
 use Rattle.paper.proofs.WordLaws.{and-both}
 use Rattle.schemas.proofs.FrameLaws.{tagged-ends, tagged-tag}
@@ -43,10 +41,10 @@ module _ (s : List ℕ) (last place : ℕ) where
   unfolding followsAt
   follows-first e = rw (eq-eqb last place e)
 
-  pub follows-by : (last ≡ place → ⊥) → (a b : List ℕ) → a ≡ fieldName s last → b ≡ fieldName s place → (r o : Order) → r ≡ orderOf a b → r ≡ o
-      → isLess o ≡ followsAt s last place
+  pub follows-by : (last ≡ place → ⊥) → (a b : List ℕ) → a ≡ fieldName s last → b ≡ fieldName s place → (r : Bool) → r ≡ before a b
+      → r ≡ followsAt s last place
   unfolding followsAt
-  follows-by h a b first second r o is e = rw (ne-eqb last place h) (compared (fieldName s last) (fieldName s place) a b first second r o is e)
+  follows-by h a b first second r is = is ∙ rw (first, second, ne-eqb last place h)
 
 -- What a field that passed has: its frame and tag, and in it the name's.
 pub record FieldHere (s : List ℕ) (place end : ℕ) : Type 0 where

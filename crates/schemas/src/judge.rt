@@ -9,7 +9,6 @@ use crate::frames::frame_end;
 use crate::frames::tagged_within;
 use crate::readers::field_name;
 use crate::readers::field_node;
-use order::Order;
 use paper::MOST_LEVELS;
 
 // A field's frame is whole, and so is the name's that opens it.
@@ -31,12 +30,7 @@ fn follows(s: &[u8], last: usize, place: usize) -> bool
     if last == place {
         return true;
     }
-    let order = order::compare(field_name(s, last), field_name(s, place));
-    match order {
-        Order::Less => true,
-        Order::Equal => false,
-        Order::Greater => false,
-    }
+    order::is_before(field_name(s, last), field_name(s, place))
 }
 
 // A column's body is one type code.
