@@ -32,6 +32,7 @@ use Rattle.forms.proofs.NamesLaws.{normal-names-there}
 use Rattle.marking.proofs.UsedIdLaws.{ids-below}
 use Rattle.names.proofs.ContainedLaws.{contained-length}
 use Rattle.names.proofs.FewLaws.{count-is, names-few}
+use Rattle.names.proofs.NeverLongerLaws.{read-length}
 use Rattle.names.proofs.SameLaws.{among-at}
 use Rattle.normalise.proofs.ChosenLaws.{chosen-used, ranks-right}
 use Rattle.paper.proofs.WordLaws.{there-some}

@@ -3,6 +3,7 @@ use mathlib.Core.List.{List}
 use mathlib.Core.Path.{_≡_, refl, sym, ap, _∙_}
 use Prim.Native.Nat.{ℕ, _^_, _<_}
 use native.Mathlib.Omega.{arith}
+use borrow.Author.Tests.{eq-eqb}
 use lib.Ieee.{binary32, binary64}
 use lib.ListN.{length, getD}
 use Rattle.numbers.specs.Little.{number}
@@ -13,7 +14,7 @@ use Rattle.paper.specs.Schemas.{columnCode}
 use Rattle.paper.specs.declared.Cell.the-variants as variants
 use Rattle.paper.specs.declared.CellAnswer.the-variants.{Read}
 use Rattle.words.specs.CellParts.{firstWord}
-use Rattle.cells.proofs.CellLaws.{number-read}
+use Rattle.cells.proofs.CellLaws.{sized-good, number-read, meaning}
 use Rattle.numbers.proofs.NumberLaws.{number-below}
 use Rattle.words.proofs.BitsLaws.{bits-kept}
 
@@ -23,7 +24,9 @@ module _ (s : List ℕ) (bytes : (i : ℕ) → getD s i 0 < 256) where
   double-bits-unchanged e =
       let small : number s < 256 ^ 8 = number-below s 8 (omega arith) bytes in
       let read : Read (numberCell 7 s) ≡ cellAnswer 7 s =
-      number-read 7 s (omega arith) refl refl (λ z. omega arith) (λ z. omega arith) (λ z. omega arith) 8 refl e refl in
+      meaning 7 s (omega arith) refl refl
+      (number-read 7 s (sym (sized-good 7 s (λ z. omega arith) (λ z. omega arith) (λ z. omega arith) 8 refl) ∙ eq-eqb (length s) 8 e)
+      (λ z. omega arith) (λ z. omega arith) (λ z. omega arith) refl) in
       ap firstWord (sym read) ∙ bits-kept binary64 variants.Double variants.DoubleNan (λ x. refl) (λ n. refl) (number s) small
 
   pub float-bits-unchanged : length s ≡ 4 → firstWord (cellAnswer 14 s) ≡ number s
@@ -31,5 +34,7 @@ module _ (s : List ℕ) (bytes : (i : ℕ) → getD s i 0 < 256) where
   float-bits-unchanged e =
       let small : number s < 256 ^ 4 = number-below s 4 (omega arith) bytes in
       let read : Read (numberCell 14 s) ≡ cellAnswer 14 s =
-      number-read 14 s (omega arith) refl refl (λ z. omega arith) (λ z. omega arith) (λ z. omega arith) 4 refl e refl in
+      meaning 14 s (omega arith) refl refl
+      (number-read 14 s (sym (sized-good 14 s (λ z. omega arith) (λ z. omega arith) (λ z. omega arith) 4 refl) ∙ eq-eqb (length s) 4 e)
+      (λ z. omega arith) (λ z. omega arith) (λ z. omega arith) refl) in
       ap firstWord (sym read) ∙ bits-kept binary32 variants.Float variants.FloatNan (λ x. refl) (λ n. refl) (number s) small

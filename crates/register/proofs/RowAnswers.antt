@@ -43,12 +43,13 @@ module _ (s row : List ℕ) where
       judged-by = rw (le-leb (length s) mostSchema short, le-leb (length row) mostRow fits)
 
       pub schema-bad : not good ≡ true → Refused BadSchema ≡ judgeAnswer s row
+      unfolding isThere
       schema-bad e = go (schemaOf s) refl ∙ sym judged-by
         where
           go : (x : Option Schema) → schemaOf s ≡ x
               → Refused BadSchema ≡ checkedBy (obtain x BadSchema λ node. obtain (rowOf node row) BadRow λ parsed. require (rowLawful node parsed) BrokenRule (reached parsed))
           go none f = unfold checkedBy in unfold obtain in refl
-          go (some node) f = never (sym (unfold isThere in ap isThere f) ∙ sym is ∙ not-true good e)
+          go (some node) f = never (sym (ap isThere f) ∙ sym is ∙ not-true good e)
 
       pub schema-good : not good ≡ false → isThere (schemaOf s) ≡ true
       schema-good e = sym is ∙ not-false good e
