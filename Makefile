@@ -36,8 +36,8 @@ tested = cd $(1); mkdir -p target; $(CARGO) test > target/tests.log 2>&1 || { ca
   grep -E '^(test result|warning)' target/tests.log
 
 # What each command needs.
-demo toolchain layout prove archive served: NEEDED := rt
-definitions: NEEDED := rt python3
+demo toolchain prove archive served: NEEDED := rt
+layout definitions: NEEDED := rt python3
 second: NEEDED := cargo rustc cc
 library compared compare bench: NEEDED := rt cargo rustc cc
 test: NEEDED := rt cargo rustc cc python3
@@ -60,8 +60,10 @@ toolchain: tools
 	@if [ "$$(rt version)" != "$$(cat TOOLCHAIN)" ]; then \
 	  echo "toolchain: '$$(rt version)' is at hand, TOOLCHAIN names '$$(cat TOOLCHAIN)'"; fi
 
+# Every file in the layout of rt fmt, and every must-fail edit at the text that it changes.
 layout: tools
 	@rt fmt --check
+	@tools/edits.py
 
 # The second program: its own tests, every shared case, and the documents in the published layout.
 second: tools
