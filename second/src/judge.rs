@@ -11,7 +11,7 @@ use crate::metadata::Dictionary;
 use crate::refusal::{Broken, Rule};
 use crate::row::{LEFTOVER, METADATA, PLACE, TYPED};
 use crate::schema::Node;
-use crate::value::{opened, Shape};
+use crate::value::{check, open, Shape};
 
 /// Judges a row under a good schema: broken where it does not parse, else the first rule it breaks.
 pub fn judge(schema: &Node, row: &[u8]) -> Result<Option<Rule>, Broken> {
@@ -26,6 +26,11 @@ pub fn judge(schema: &Node, row: &[u8]) -> Result<Option<Rule>, Broken> {
     walk.place(schema, place, 1)?;
     Ok(walk.rule)
 }
+
+/// The low two bits of an object's first byte.
+const OBJECT: u8 = 2;
+/// The low two bits of an array's first byte.
+const ARRAY: u8 = 3;
 
 struct Walk<'a> {
     names: Dictionary<'a>,
@@ -63,18 +68,26 @@ impl<'a> Walk<'a> {
         if value.len() > limits::VALUE {
             return Err(Broken);
         }
-        let shape = opened(&self.names, value, level)?;
-        let broken = match (node, shape) {
-            (Node::Object(fields), Shape::Object(left)) if beside => {
-                left.iter().any(|(name, _)| is_named(fields, name)).then_some(Rule::C)
+        check(&self.names, value, level)?;
+        let broken = match (node, value[0] & 3) {
+            (Node::Object(fields), OBJECT) if beside => {
+                self.clashes(fields, value).then_some(Rule::C)
             }
             (Node::Object(_), _) if beside => Some(Rule::B),
             _ if beside => Some(Rule::A),
-            (Node::Object(_), Shape::Object(_)) | (Node::List(_), Shape::Array(_)) => Some(Rule::D),
+            (Node::Object(_), OBJECT) | (Node::List(_), ARRAY) => Some(Rule::D),
             _ => None,
         };
         self.note(broken);
         Ok(())
+    }
+
+    /// Whether an object has a name that the node names.
+    fn clashes(&self, fields: &Fields, value: &'a [u8]) -> bool {
+        match open(&self.names, value) {
+            Ok(Shape::Object(left)) => left.iter().any(|(name, _)| is_named(fields, name)),
+            _ => false,
+        }
     }
 
     fn typed(&mut self, node: &Node, body: &'a [u8], level: usize) -> Result<(), Broken> {

@@ -83,26 +83,18 @@ pub enum Shape<'a> {
 
 /// Judges a value and everything inside it; the value stands at `level`.
 pub fn check(names: &Dictionary, bytes: &[u8], level: usize) -> Result<(), Broken> {
-    opened(names, bytes, level).map(|_| ())
-}
-
-/// Judges a value and everything inside it, and opens it by one level.
-pub fn opened<'a>(
-    names: &Dictionary<'a>,
-    bytes: &'a [u8],
-    level: usize,
-) -> Result<Shape<'a>, Broken> {
     if level > limits::LEVELS {
         return Err(Broken);
     }
-    let shape = open(names, bytes)?;
-    let inside = |item: &Range<usize>| check(names, &bytes[item.clone()], level + 1);
-    match &shape {
-        Shape::Array(items) => items.iter().try_for_each(inside)?,
-        Shape::Object(fields) => fields.iter().try_for_each(|(_, item)| inside(item))?,
-        _ => {}
+    match open(names, bytes)? {
+        Shape::Array(items) => {
+            items.into_iter().try_for_each(|item| check(names, &bytes[item], level + 1))
+        }
+        Shape::Object(fields) => {
+            fields.into_iter().try_for_each(|(_, item)| check(names, &bytes[item], level + 1))
+        }
+        _ => Ok(()),
     }
-    Ok(shape)
 }
 
 /// Opens the value that is exactly these bytes; its children are not judged.

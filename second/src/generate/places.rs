@@ -278,4 +278,16 @@ mod tests {
         }
         assert!(most > 20);
     }
+
+    #[test]
+    fn a_place_ends_behind_all_that_is_inside() {
+        let mut rng = Rng::new(29);
+        for _ in 0..100 {
+            let node = branching(&mut rng, 1, &mut 6);
+            let place = of_schema(&mut rng, &node, 1, &mut 30);
+            for site in sites(&node, &place) {
+                assert_eq!(site.end - site.number, sites(site.node, site.place).len());
+            }
+        }
+    }
 }
