@@ -6,22 +6,17 @@ use mathlib.Core.Path.{_≡_, refl, sym, _∙_}
 use Prim.Native.Nat.{ℕ}
 use native.Mathlib.Omega.{arith}
 use lib.Ieee.{Float, nan, inf, fin, lt, eq, le, isNan}
-use Rattle.boxes.specs.Sides.{sideBy, boxOfSides, Lawful}
+use Rattle.boxes.specs.Sides.{sideBy, boxOfSides}
 use Rattle.boxes.specs.declared.Side.the-variants.{Double, Nothing}
 use Rattle.boxes.specs.declared.Side.{Side}
-use Rattle.dictionary.specs.declared.Names.{Names}
-use Rattle.paper.specs.Boxes.{east, north, south, west, side, boxIn, boxOf}
-use Rattle.paper.specs.Limits.{mostLevels}
+use Rattle.paper.specs.Boxes.{east, north, south, west, side, boxIn}
 use Rattle.paper.specs.Meaning.{Doc, object, Fields}
-use Rattle.paper.specs.Metadata.{namesIn}
 use Rattle.paper.specs.Operations.{boxReadBy}
 use Rattle.paper.specs.Refusals.{reached}
-use Rattle.paper.specs.Values.{meaningOf}
 use Rattle.paper.specs.Words.{given, andThen}
 use Rattle.paper.specs.declared.BoxAnswer.the-variants.{Read, Absent}
 use Rattle.paper.specs.declared.BoxAnswer.{BoxAnswer}
 use Rattle.paper.specs.declared.LotBox.{LotBox}
-use Rattle.paper.proofs.WordLaws.{there-some}
 
 -- ---- what a side says
 
@@ -171,11 +166,3 @@ module _ (M : Option Doc) where
     pub box-read : {r : BoxAnswer} → r ≡ boxReadBy (reached (boxOfSides e n s w)) → BoxSaid r
     unfolding boxFrom andThen
     box-read told fs f = rw (from-four fs f) told
-
--- ---- no second answer: what is said of every meaning is said of the one that a lawful document has
-
-pub one-answer : (m : List ℕ) (d : Names) (s : List ℕ) → Lawful m d s → (r other : BoxAnswer)
-    → ((doc : Doc) → meaningOf mostLevels (namesIn m) s ≡ some doc → r ≡ boxReadBy (reached (boxOf doc)))
-    → ((doc : Doc) → meaningOf mostLevels (namesIn m) s ≡ some doc → other ≡ boxReadBy (reached (boxOf doc))) → r ≡ other
-one-answer m d s lawful r other is also =
-    let has = there-some (meaningOf mostLevels (namesIn m) s) (lawful .means) in is (has .0) (has .1) ∙ sym (also (has .0) (has .1))
