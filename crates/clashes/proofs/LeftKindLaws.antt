@@ -5,7 +5,6 @@ use mathlib.Core.Option.{Option, none, some, Option·some-injective as some-inje
 use mathlib.Core.Path.{_≡_, refl, sym, _∙_}
 use Prim.Native.Nat.{ℕ, zero, suc, _+_, _/_, _%_, _<_}
 use native.Mathlib.Omega.{arith}
-use borrow.Author.Tests.{eqb-true, eq-eqb, ne-eqb}
 use lib.Dec.{leb, eqb}
 use lib.ListN.{getD, drop}
 use Rattle.paper.specs.FirstBytes.{readingOf, kindReading, primitiveReading, payloadSizes, lengthPrefixed, countSize}
@@ -16,9 +15,6 @@ use Rattle.paper.specs.Values.{membersOf, memberDocs, elementsOf, elementDocs, 
 use Rattle.paper.specs.Words.{at, isThere}
 use Rattle.paper.specs.declared.Reading.the-variants.{Fixed, Prefixed, Short, ObjectHead, ArrayHead, Nothing}
 use Rattle.paper.specs.declared.Reading.{Reading}
-use Rattle.clashes.specs.Kinds.{leftKind}
-use Rattle.clashes.specs.declared.kinds.LeftKind.{LeftKind}
-use Rattle.clashes.specs.declared.kinds.LeftKind.the-variants.{Object, Array, Other}
 use Rattle.boxes.proofs.DoubleLaws.{meant}
 use Rattle.paper.proofs.MeaningLaws.{string-is, prefixed-is}
 use Rattle.paper.proofs.WordLaws.{never, given-some, then-some, some-there}
@@ -103,38 +99,6 @@ module _ (inner : List ℕ → Option Doc) (names : Dictionary) (s : List ℕ) {
       go true e = rw three (by-reading inner names s (ArrayHead (countSize (rest / 4 % 2)) (rest % 4 + 1)) e)
       go false e = nothing-meant e
 
--- ---- the code's answers
-
-module _ (s : List ℕ) where
-  pub answer-object : at s 0 % 4 ≡ 2 → Object ≡ leftKind s
-  unfolding leftKind
-  answer-object e = rw (eq-eqb (at s 0 % 4) 2 e)
-
-  pub answer-array : at s 0 % 4 ≡ 3 → Array ≡ leftKind s
-  unfolding leftKind
-  answer-array e = rw e
-
-  pub answer-other : (at s 0 % 4 ≡ 2 → ⊥) → (at s 0 % 4 ≡ 3 → ⊥) → Other ≡ leftKind s
-  unfolding leftKind
-  answer-other a b = rw (ne-eqb (at s 0 % 4) 2 a, ne-eqb (at s 0 % 4) 3 b)
-
--- ---- by the answer
-
-told-object : (a b : Bool) → cond a Object (cond b Array Other) ≡ Object → a ≡ true
-told-object true b e = refl
-told-object false true e = never cc
-told-object false false e = never cc
-
-told-array : (a b : Bool) → cond a Object (cond b Array Other) ≡ Array → (a ≡ false) × (b ≡ true)
-told-array true b e = never cc
-told-array false true e = (refl, refl)
-told-array false false e = never cc
-
-told-other : (a b : Bool) → cond a Object (cond b Array Other) ≡ Other → (a ≡ false) × (b ≡ false)
-told-other true b e = never cc
-told-other false true e = never cc
-told-other false false e = (refl, refl)
-
 -- ---- what lawful bytes mean
 
 other-head : (r : Reading) → ((c i w : ℕ) → r ≡ ObjectHead c i w → ⊥) → objectHead r ≡ false
@@ -159,25 +123,6 @@ module _ (levels : ℕ) (names : Dictionary) (s : List ℕ) {d : Doc} (means : m
   left-kind =
       let m = meant levels names s means in
       by-kind (meaningOf (m .below) names) names s (at s 0 % 4) (at s 0 / 4) (omega arith) (m .by)
-
-  -- what each answer tells
-  module _ {r : LeftKind} (is : r ≡ leftKind s) where
-    pub left-object : r ≡ Object → (isObject d ≡ true) × (isArray d ≡ false)
-    unfolding leftKind
-    left-object e =
-        let two = told-object (eqb (at s 0 % 4) 2) (eqb (at s 0 % 4) 3) (sym is ∙ e) in
-        let low = eqb-true (at s 0 % 4) 2 two in
-        (left-kind .0 ∙ two, left-kind .1 ∙ ne-eqb (at s 0 % 4) 3 (λ f. omega arith))
-
-    pub left-array : r ≡ Array → (isObject d ≡ false) × (isArray d ≡ true)
-    unfolding leftKind
-    left-array e =
-        let three = told-array (eqb (at s 0 % 4) 2) (eqb (at s 0 % 4) 3) (sym is ∙ e) in (left-kind .0 ∙ three .0, left-kind .1 ∙ three .1)
-
-    pub left-other : r ≡ Other → (isObject d ≡ false) × (isArray d ≡ false)
-    unfolding leftKind
-    left-other e =
-        let low = told-other (eqb (at s 0 % 4) 2) (eqb (at s 0 % 4) 3) (sym is ∙ e) in (left-kind .0 ∙ low .0, left-kind .1 ∙ low .1)
 
   -- only an object has names
   pub no-object : {r : Reading} → r ≡ readingOf (at s 0) → ((c i w : ℕ) → r ≡ ObjectHead c i w → ⊥) → (named : List (List ℕ)) → false ≡ hasAny named d

@@ -1,3 +1,2 @@
--- What a leftover is, and whether it has a name that its node names.
-pub mod Kinds
+-- Whether a leftover has a name that its node names.
 pub mod Shared

@@ -1,7 +1,4 @@
-// A leftover: its kind, and whether it has a name that its node names (rule c).
-mod kinds;
+// Rule c: whether a leftover has a name that its node names.
 mod merging;
 
-pub use kinds::LeftKind;
-pub use kinds::left_kind;
 pub use merging::clash;

@@ -34,22 +34,24 @@ module _ (s : List ℕ) (place : ℕ) where
     unfolding frameAt frameBy frameEnd given
     ends-there h = rw (le-leb (place + 3) (length s) (omega arith), ← is, le-leb (place + 3 + size) (length s) (omega arith))
 
--- What an answer says of the frame's end.
+-- What an answer says of an end.
+pub by-cut : (x : Option ℕ) → frameBy x ≡ Cut → x ≡ none
+unfolding frameBy
+by-cut none f = refl
+by-cut (some end) f = absurd (let z : _≡_ {A = ℕ} 0 1 = cc in omega arith)
+
+pub by-ends : (x : Option ℕ) {end : ℕ} → frameBy x ≡ Ends end → x ≡ some end
+unfolding frameBy
+by-ends none f = absurd (let z : _≡_ {A = ℕ} 0 1 = cc in omega arith)
+by-ends (some there) f = cc
+
 pub frame-cut : (s : List ℕ) (place : ℕ) (r : Frame) → r ≡ frameAt s place → r ≡ Cut → frameEnd s place ≡ none
-unfolding frameAt frameBy
-frame-cut s place r is e = go (frameEnd s place) (sym is ∙ e)
-  where
-    go : (x : Option ℕ) → frameBy x ≡ Cut → x ≡ none
-    go none f = refl
-    go (some end) f = absurd (let z : _≡_ {A = ℕ} 0 1 = cc in omega arith)
+unfolding frameAt
+frame-cut s place r is e = by-cut (frameEnd s place) (sym is ∙ e)
 
 pub frame-ends : (s : List ℕ) (place end : ℕ) (r : Frame) → r ≡ frameAt s place → r ≡ Ends end → frameEnd s place ≡ some end
-unfolding frameAt frameBy
-frame-ends s place end r is e = go (frameEnd s place) (sym is ∙ e)
-  where
-    go : (x : Option ℕ) → frameBy x ≡ Ends end → x ≡ some end
-    go none f = absurd (let z : _≡_ {A = ℕ} 0 1 = cc in omega arith)
-    go (some there) f = cc
+unfolding frameAt
+frame-ends s place end r is e = by-ends (frameEnd s place) (sym is ∙ e)
 
 pub frame-fits : (s : List ℕ) (place end : ℕ) → frameEnd s place ≡ some end → (place + 3 ≤ end) × (end ≤ length s)
 unfolding frameEnd
@@ -64,7 +66,7 @@ frame-fits s place end e =
 -- ---- the pieces of some bytes
 
 -- As many pieces may be asked for as there are bytes, or more: it is the same.
-pieces-more : (n m : ℕ) (s : List ℕ) → length s ≤ n → length s ≤ m → piecesWithin n s ≡ piecesWithin m s
+pub pieces-more : (n m : ℕ) (s : List ℕ) → length s ≤ n → length s ≤ m → piecesWithin n s ≡ piecesWithin m s
 unfolding piecesWithin
 pieces-more zero zero s h k = refl
 pieces-more zero (suc m) [] h k = refl

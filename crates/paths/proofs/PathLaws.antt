@@ -15,25 +15,8 @@ use Rattle.paper.specs.Paths.{stepOf, stepsOf, pathOf}
 use Rattle.paper.specs.Standing.{Step, byIndex}
 use Rattle.paper.specs.Words.{at, part, given, andThen, isThere}
 use Rattle.dictionary.proofs.NumbersRunLaws.{number-drop}
+use Rattle.frames.proofs.FrameLaws.{pieces-more}
 use Rattle.paper.proofs.WordLaws.{never}
-
--- ---- pieces
-
--- As many pieces may be asked for as there are bytes, or more: it is the same.
-pub pieces-more : (n m : ℕ) (s : List ℕ) → length s ≤ n → length s ≤ m → piecesWithin n s ≡ piecesWithin m s
-unfolding piecesWithin
-pieces-more zero zero s h k = refl
-pieces-more zero (suc m) [] h k = refl
-pieces-more zero (suc m) (tag ∷ rest) h k = absurd (omega arith)
-pieces-more (suc n) zero [] h k = refl
-pieces-more (suc n) zero (tag ∷ rest) h k = absurd (omega arith)
-pieces-more (suc n) (suc m) [] h k = refl
-pieces-more (suc n) (suc m) (tag ∷ rest) h k =
-    let size : ℕ = numberAt rest 0 2 in
-    ap
-    (λ (x : Option (List Piece)). given (leb 2 (length rest) && leb (2 + size) (length rest))
-    (andThen x λ more. some (record { tag = tag; body = part rest 2 (2 + size) } ∷ more)))
-    (pieces-more n m (drop (2 + size) rest) (rw length-drop (omega arith)) (rw length-drop (omega arith)))
 
 -- ---- a path by its first piece
 

@@ -18,7 +18,7 @@ use Rattle.paper.specs.Rows.{Place, empty, leftover, typed, both, Typed, Places
 use Rattle.paper.specs.Rules.{hasLeftover, hasTyped, breaksE, breaksF, elementsLawful, fieldsLawful, placeLawful}
 use Rattle.paper.specs.Schemas.{Schema, SchemaFields, noColumns, named}
 use Rattle.paper.specs.Words.{at, part, given, andThen, among, isThere}
-use Rattle.frames.proofs.FrameLaws.{piecesBy, pieces-at, pieces-ended, frame-fits}
+use Rattle.frames.proofs.FrameLaws.{by-cut, by-ends, piecesBy, pieces-at, pieces-ended, frame-fits}
 use Rattle.paper.proofs.WordLaws.{never, given-some, then-some, some-there}
 use Rattle.places.proofs.PlaceLaws.{Told, told}
 use Rattle.places.proofs.VerdictLaws.{place-under, worse-unparsed, list-step, fields-step}
@@ -115,20 +115,12 @@ module _ (node : Schema) (levels : ℕ) (names : Dictionary) (body : List ℕ) w
 
 -- What the code is told of an inner place's frame.
 pub place-cut : (s : List ℕ) (place : ℕ) (r : Frame) → r ≡ placeFrame s place → r ≡ Cut → placeEnd s place ≡ none
-unfolding placeFrame frameBy
-place-cut s place r is e = go (placeEnd s place) (sym is ∙ e)
-  where
-    go : (x : Option ℕ) → frameBy x ≡ Cut → x ≡ none
-    go none f = refl
-    go (some end) f = absurd (let z : _≡_ {A = ℕ} 0 1 = cc in omega arith)
+unfolding placeFrame
+place-cut s place r is e = by-cut (placeEnd s place) (sym is ∙ e)
 
 pub place-ends : (s : List ℕ) (place end : ℕ) (r : Frame) → r ≡ placeFrame s place → r ≡ Ends end → placeEnd s place ≡ some end
-unfolding placeFrame frameBy
-place-ends s place end r is e = go (placeEnd s place) (sym is ∙ e)
-  where
-    go : (x : Option ℕ) → frameBy x ≡ Ends end → x ≡ some end
-    go none f = absurd (let z : _≡_ {A = ℕ} 0 1 = cc in omega arith)
-    go (some there) f = cc
+unfolding placeFrame
+place-ends s place end r is e = by-ends (placeEnd s place) (sym is ∙ e)
 
 pub place-fits : (s : List ℕ) (place end : ℕ) → placeEnd s place ≡ some end → (place + 3 ≤ end) × (end ≤ length s)
 unfolding placeEnd

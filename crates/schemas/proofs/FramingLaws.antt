@@ -13,6 +13,7 @@ use lib.Seq.{take-nil, take-take, length-take-le, drop-drop, drop-cons}
 use Rattle.numbers.specs.Little.{numberAt}
 use Rattle.paper.specs.Framing.{Piece, piecesWithin, piecesOf, only, onePiece}
 use Rattle.paper.specs.Words.{at, part, given, andThen}
+use Rattle.frames.proofs.FrameLaws.{pieces-more}
 use Rattle.paper.proofs.WordLaws.{and-both}
 use Rattle.schemas.specs.Frames.{frameEnd, pieceAt, frameWithin}
 
@@ -52,22 +53,6 @@ unfolding frameWithin
 frame-ends s place end e = leb-true (frameEnd s place) end (and-both (leb (place + 3) end) (leb (frameEnd s place) end) e .1)
 
 -- ---- pieces
-
--- As many pieces may be asked for as there are bytes, or more: it is the same.
-pieces-more : (n m : ℕ) (s : List ℕ) → length s ≤ n → length s ≤ m → piecesWithin n s ≡ piecesWithin m s
-unfolding piecesWithin
-pieces-more zero zero s h k = refl
-pieces-more zero (suc m) [] h k = refl
-pieces-more zero (suc m) (tag ∷ rest) h k = absurd (omega arith)
-pieces-more (suc n) zero [] h k = refl
-pieces-more (suc n) zero (tag ∷ rest) h k = absurd (omega arith)
-pieces-more (suc n) (suc m) [] h k = refl
-pieces-more (suc n) (suc m) (tag ∷ rest) h k =
-    let size : ℕ = numberAt rest 0 2 in
-    ap
-    (λ (x : Option (List Piece)). given (leb 2 (length rest) && leb (2 + size) (length rest))
-    (andThen x λ more. some (record { tag = tag; body = part rest 2 (2 + size) } ∷ more)))
-    (pieces-more n m (drop (2 + size) rest) (rw length-drop (omega arith)) (rw length-drop (omega arith)))
 
 pub pieces-ended : (s : List ℕ) (from to : ℕ) → to ≤ from → piecesOf (part s from to) ≡ some []
 unfolding piecesOf piecesWithin

@@ -1,10 +1,10 @@
 // Schemas: a lent one judged, and a good one's nodes and fields handed out by position. The schema stays bytes.
-mod frames;
+mod framing;
 mod judge;
 mod readers;
 
-pub use frames::frame_end;
-pub use frames::tagged_within;
+pub use framing::frame_end;
+pub use framing::tagged_within;
 pub use judge::good;
 pub use readers::Kind;
 pub use readers::field_name;

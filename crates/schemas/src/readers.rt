@@ -7,7 +7,7 @@ ghost use lib.ListN.{length};
 ghost use Rattle.schemas.specs.Positions.{fieldNode, fieldName};
 ghost use Rattle.schemas.specs.Kinds.{kindAt, KindThere};
 ghost use Rattle.schemas.specs.Walk.{frameNext};
-use crate::frames::frame_end;
+use crate::framing::frame_end;
 
 // The kind of a node: leftover only, a column of a type code, a list, an object with fields.
 pub enum Kind {

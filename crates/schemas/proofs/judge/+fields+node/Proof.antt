@@ -17,7 +17,7 @@ use Rattle.schemas.proofs.judge.column_good.Reads as column-good-reads
 use Rattle.schemas.proofs.judge.field_within.Reads as field-within-reads
 use Rattle.schemas.proofs.judge.follows.Reads as follows-reads
 use Rattle.schemas.proofs.readers.field_node.Reads as field-node-reads
-use Rattle.schemas.proofs.frames.frame_end.Reads as frame-end-reads
+use Rattle.schemas.proofs.framing.frame_end.Reads as frame-end-reads
 use Rattle.schemas.proofs.judge.+fields+node.{statement}
 use Rattle.schemas.proofs.judge.+fields+node.Tie.{close}
 
