@@ -30,7 +30,7 @@ RUN = $(if $(SERVED),"$(EMULATOR)" "$(LOADER)" --library-path "$(KIT)/toolchain/
 # $(call told,COMMAND): a command of rt, which says each crate as it is proved and, by name, what is not.
 told = mkdir -p target; $(1) 2>&1 | tee $(SAID) \
   | { grep --line-buffered -E '^rt: (ok|FAILED|.* proved \([0-9]|.*NOT PROVED|.*run FAILED)' || true; } \
-  || { echo "$(1) failed; all that it said is in $(SAID)"; exit 1; }
+  || { grep -m 3 ': error' $(SAID) | cut -c 1-300 || true; echo "$(1) failed; all that it said is in $(SAID)"; exit 1; }
 # $(call tested,FOLDER): a program's own tests, their result, and all that they say if they fail.
 tested = cd $(1); mkdir -p target; $(CARGO) test > target/tests.log 2>&1 || { cat target/tests.log; exit 1; }; \
   grep -E '^(test result|warning)' target/tests.log
