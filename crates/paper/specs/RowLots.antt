@@ -37,6 +37,9 @@ emptyObjectLeft = 0x41 ∷ 0x03 ∷ 0x00 ∷ 0x02 ∷ 0x00 ∷ 0x00 ∷ []
 emptyArrayLeft : List ℕ
 emptyArrayLeft = 0x41 ∷ 0x03 ∷ 0x00 ∷ 0x03 ∷ 0x00 ∷ 0x00 ∷ []
 
+emptyTextLeft : List ℕ
+emptyTextLeft = 0x41 ∷ 0x01 ∷ 0x00 ∷ 0x01 ∷ []
+
 trueTyped : List ℕ
 trueTyped = 0x42 ∷ 0x01 ∷ 0x00 ∷ 0x01 ∷ []
 
@@ -50,7 +53,7 @@ trueInside = 0x42 ∷ 0x07 ∷ 0x00 ∷ 0x50 ∷ 0x04 ∷ 0x00 ∷ trueTyped
 -- ---- the lots
 
 unfoldable pub ruled : List Lot
-unfolding columnA nested anything yesNo listOfYesNo listOfAnything row nullLeft emptyObjectLeft emptyArrayLeft trueTyped emptyInside trueInside
+unfolding columnA nested anything yesNo listOfYesNo listOfAnything row nullLeft emptyObjectLeft emptyArrayLeft emptyTextLeft trueTyped emptyInside trueInside
 ruled =
     -- a. both under a column, the leftover an object
     refusedRow yesNo (row (emptyObjectLeft ++ trueTyped)) BrokenRule
@@ -68,9 +71,9 @@ ruled =
     ∷ rebuilds columnA (row emptyInside) (0x11 ∷ 0x00 ∷ 0x00 ∷ []) (0x02 ∷ 0x00 ∷ 0x00 ∷ [])
     -- `42` under node `00`
     ∷ refusedRow anything (row trueTyped) BadRow
-    -- a second `41`, and a `42` in front of the `41`
-    ∷ refusedRow anything (row (nullLeft ++ nullLeft)) BadRow
-    ∷ refusedRow columnA (row (emptyInside ++ emptyObjectLeft)) BadRow
+    -- a second `41`, and a `42` in front of the `41`, though the second could be read as the column's true
+    ∷ refusedRow yesNo (row (nullLeft ++ emptyTextLeft)) BadRow
+    ∷ refusedRow yesNo (row (trueTyped ++ emptyTextLeft)) BadRow
     -- a leftover inside a list starts at level 2: it may have 15 levels, not 16
     ∷ rebuilds listOfAnything (row (frame 0x42 (frame 0x50 (frame 0x41 (nested 14))))) (0x11 ∷ 0x00 ∷ 0x00 ∷ []) (nested 15)
     ∷ refusedRow listOfAnything (row (frame 0x42 (frame 0x50 (frame 0x41 (nested 15))))) BadRow
