@@ -38,11 +38,8 @@ offsets-size normal count width counted =
     numbers-bytes-length width (offsetsFrom 0 normal) ∙ ap (λ (n : ℕ). n * width) size
 
 -- They are few enough for sums to fit.
-pub size-fits : (count width : ℕ) → count ≤ mostNames → width ≤ 4 → (count + 1) * width ≤ 65540
-size-fits count width few most =
-    let next : count + 1 ≤ 16385 = omega arith in
-    let all : (count + 1) * width ≤ 16385 * 4 = mul-le-mul next most in
-    omega arith
+pub size-fits : (count width : ℕ) → count ≤ mostNames → width ≤ 4 → (count + 1) * width ≤ (mostNames + 1) * 4
+size-fits count width few most = let next : count + 1 ≤ mostNames + 1 = omega arith in mul-le-mul next most
 
 module _ (normal : Dictionary) (count total width : ℕ) (counted : length normal ≡ count) (sum : total ≡ length (joined normal))
     (wide : Wide count total width) where

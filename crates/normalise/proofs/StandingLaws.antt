@@ -4,7 +4,7 @@ use mathlib.Core.List.{List}
 use mathlib.Core.Logic.{_⊎_, inl, inr}
 use mathlib.Core.Option.{some, Option·some-injective as some-injective}
 use mathlib.Core.Path.{_≡_, refl, sym, ap, _∙_}
-use Prim.Native.Nat.{ℕ, _≤_, _<_}
+use Prim.Native.Nat.{ℕ, _-_, _≤_, _<_}
 use native.Mathlib.Omega.{arith}
 use borrow.Author.Tests.{le-ltb, lt-ltb, lt-leb, ltb-true, eq-eqb, ne-eqb, eqb-true}
 use lib.Dec.{ltb, eqb}
@@ -59,7 +59,7 @@ unshortened type s h = rw (lt-leb (length s) 68 h, and-false (eqb type 16))
 
 prefixed-same : (ranks s : List ℕ) (type : ℕ) → readingOf (at s 0) ≡ Prefixed type → 68 < length s → rewritten mostLevels ranks s ≡ s
 unfolding rewritten rewrittenBy
-prefixed-same ranks s type e h = ap (λ (r : Reading). rewrittenBy (rewritten 15 ranks) ranks r s) e ∙ unshortened type s h
+prefixed-same ranks s type e h = ap (λ (r : Reading). rewrittenBy (rewritten (mostLevels - 1) ranks) ranks r s) e ∙ unshortened type s h
 
 stands-same : (ranks s : List ℕ) → standing s ≡ true → rewritten mostLevels ranks s ≡ s
 unfolding standing
