@@ -1,0 +1,1 @@
+-- What is rebuilt is the normal form of what the row means: laws.
