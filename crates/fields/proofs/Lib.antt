@@ -5,3 +5,4 @@ pub mod SpotLaws
 pub mod ApartLaws
 pub mod ScanLaws
 pub mod FillLaws
+pub mod NamesLaws

@@ -1,4 +1,5 @@
 -- A table that tells of each schema field which id its name has in a dictionary, by the field's position in the schema.
+use mathlib.Core.Bool.{Bool, true, false}
 use mathlib.Core.List.{List}
 use mathlib.Core.Path.{_≡_}
 use Prim.Native.Nat.{ℕ, zero, suc, _+_, _/_}
@@ -28,6 +29,15 @@ entryPlace place = place / 9
 
 abbrev pub lookedAt : (table : List ℕ) → (place : ℕ) → Looked
 lookedAt table place = lookedOf (getD table (entryPlace place) 0)
+
+-- ---- whether there are fields
+
+-- A schema names fields where an object stands under its lists.
+unfoldable pub namesFields : Schema → Bool
+namesFields leftoverOnly = false
+namesFields (column said) = false
+namesFields (list element) = namesFields element
+namesFields (fields columns) = true
 
 -- ---- what a table tells
 

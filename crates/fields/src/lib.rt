@@ -13,7 +13,7 @@ ghost use Rattle.paper.specs.Words.{isThere};
 ghost use Rattle.dictionary.specs.Judging.{Opened};
 ghost use Rattle.lookup.specs.Looking.{Ordered};
 ghost use Rattle.schemas.specs.Positions.{fieldNode, fieldName};
-ghost use Rattle.fields.specs.Telling.{entryOf, entryPlace, lookedAt, Told, Noted};
+ghost use Rattle.fields.specs.Telling.{entryOf, entryPlace, lookedAt, namesFields, Told, Noted};
 use dictionary::InputId;
 use dictionary::Names;
 use lookup::Looked;
@@ -67,6 +67,18 @@ fn note(
 {
     let looked = look_up(metadata, names, order, field_name(schema, place));
     enter(table, place, looked);
+}
+
+// Whether a good schema names fields, and so whether there is anything to find: by the first node that is no list.
+pub fn names_fields(schema: &[u8]) -> bool
+    requires { ⌜ isThere (schemaOf (now schema)) ≡ true ⌝ }
+    ensures { λ r. ⌜ ((node : Schema) → schemaOf (now (schema .entry)) ≡ some node → r ≡ namesFields node) ⌝ }
+{
+    let mut place = 0;
+    while schema[place] == 0x20 {
+        place += 3;
+    }
+    schema[place] == 0x30
 }
 
 // Finds the id of each field of a good schema, in one scan of it.
