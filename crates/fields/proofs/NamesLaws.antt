@@ -1,6 +1,6 @@
 -- Whether a schema names fields: its lists are passed, and the node under them tells. Of a schema that names none every table
 -- tells.
-use mathlib.Core.Bool.{Bool, true, false}
+use mathlib.Core.Bool.{true, false}
 use mathlib.Core.List.{List}
 use mathlib.Core.Option.{some}
 use mathlib.Core.Path.{_≡_, refl, sym, _∙_}

@@ -1,16 +1,18 @@
 -- A row opened and judged: each answer by the tests that led there.
-use mathlib.Core.Bool.{Bool, true, false}
+use mathlib.Core.Bool.{Bool, true, false, not}
 use mathlib.Core.List.{List}
 use mathlib.Core.Option.{Option, none, some}
 use mathlib.Core.Path.{_≡_, refl, sym, ap, _∙_}
 use Prim.Native.Nat.{ℕ, _+_, _-_, _/_, _≤_, _<_}
 use native.Mathlib.Omega.{arith}
+use borrow.Author.Tests.{not-true}
 use lib.ListN.{length, length-take, length-drop}
 use Rattle.dictionary.specs.Judging.{Opened, judgedOf}
 use Rattle.dictionary.specs.declared.Judged.the-variants.{Good, Broken as BrokenMetadata}
 use Rattle.dictionary.specs.declared.Judged.{Judged}
 use Rattle.dictionary.specs.declared.Names.{Names}
-use Rattle.fields.specs.Telling.{Told}
+use Rattle.fields.specs.Telling.{namesFields}
+use Rattle.fields.proofs.NamesLaws.{none-told}
 use Rattle.frames.specs.declared.Frame.the-variants.{Ends, Cut as CutFrame}
 use Rattle.frames.specs.declared.Frame.{Frame}
 use Rattle.heads.specs.Packing.{Readings}
@@ -26,7 +28,7 @@ use Rattle.schemas.specs.Positions.{Stands}
 use Rattle.schemas.proofs.StandingLaws.{schema-stands}
 use Rattle.places.proofs.HalfLaws.{Halves, halved, unhalved, metadata-size, row-other-tag, row-long-metadata, row-bad-metadata, row-other-place, row-place}
 use Rattle.places.specs.Halves.{halvesOf}
-use Rattle.rows.specs.Judging.{metadataOf, outermostOf, InOrder, OpenedAs, opened as openedRow, unopened, RowReady, Walked, HandedOn, verdictIn, JudgedAs}
+use Rattle.rows.specs.Judging.{metadataOf, outermostOf, InOrder, OpenedAs, opened as openedRow, unopened, RowReady, TableTells, Walked, HandedOn, verdictIn, JudgedAs}
 use Rattle.places.specs.Verdicts.{placeVerdict, rowVerdict}
 use Rattle.places.specs.Walking.{NodeReady}
 use Rattle.rows.specs.declared.judging.Opening.the-variants.{At, Cut}
@@ -93,24 +95,30 @@ module _ {schema row : List ℕ} {parts : RowParts} {table : List ℕ} (ready : 
   pub ready-halves : (3 ≤ parts .middle) × (parts .middle + 3 ≤ length row)
   ready-halves = (ready .in-order .first-long, ready .in-order .second-long)
 
-  pub ready-node : {readings : List ℕ} → Readings readings → (after : List ℕ) → length after ≡ length table
-      → ((node : Schema) → schemaOf schema ≡ some node → Told (namesIn (metadataOf row parts)) schema after node 0)
-      → NodeReady mostLevels readings (metadataOf row parts) (parts .names) schema after 0
-  ready-node readings after same told =
+  pub ready-node : {readings : List ℕ} → Readings readings → TableTells schema row parts table → NodeReady mostLevels readings (metadataOf row parts) (parts .names) schema table 0
+  ready-node readings told =
       let got = there-some (schemaOf schema) (ready .good) in
       record {
         opened = ready-opened;
         readings-are = readings;
-        tabled = rw same (ready .tabled);
+        tabled = ready .tabled;
         node = got .0;
         stands = schema-stands schema (got .0) (got .1) .0;
         told = told (got .0) (got .1);
       }
 
-  pub walked : (after : List ℕ) → ((node : Schema) → schemaOf schema ≡ some node → Told (namesIn (metadataOf row parts)) schema after node 0)
+  -- A table of the same length does as well.
+  pub ready-after : (after : List ℕ) → length after ≡ length table → RowReady schema row parts after
+  ready-after after same = record { in-order = ready .in-order; good = ready .good; tabled = rw same (ready .tabled); short = ready .short }
+
+  -- A schema that names no field.
+  pub nothing-told : (r : Bool) → ((node : Schema) → schemaOf schema ≡ some node → r ≡ namesFields node) → not r ≡ true → TableTells schema row parts table
+  nothing-told r told none-named node is = none-told _ schema table node 0 (sym (told node is) ∙ not-true r none-named)
+
+  pub walked : TableTells schema row parts table
       → (v : Verdict) → ((under : Schema) → Stands mostLevels schema 0 under → v ≡ placeVerdict under mostLevels (namesIn (metadataOf row parts)) (outermostOf row parts))
-      → Walked schema row parts after v
-  walked after told v judged-place =
+      → Walked schema row parts table v
+  walked told v judged-place =
       record {
         verdict-is = λ node is. judged-place node (schema-stands schema node is .0) ∙ ready .in-order .comes-to node;
         told = told;

@@ -47,17 +47,21 @@ pub record RowReady (schema row : List ℕ) (parts : RowParts) (table : List ℕ
   pub tabled : length schema / 9 ≤ length table
   pub short : length row ≤ mostRow
 
+-- A table tells of the schema's fields in the row's dictionary.
+abbrev pub TableTells : (schema row : List ℕ) → RowParts → (table : List ℕ) → Type 0
+TableTells schema row parts table = (node : Schema) → schemaOf schema ≡ some node → Told (namesIn (metadataOf row parts)) schema table node 0
+
 -- Walked: the row's verdict, and the table tells of the schema's fields.
 pub record Walked (schema row : List ℕ) (parts : RowParts) (table : List ℕ) (verdict : Verdict) : Type 0 where
   pub verdict-is : (node : Schema) → schemaOf schema ≡ some node → verdict ≡ rowVerdict node row
-  pub told : (node : Schema) → schemaOf schema ≡ some node → Told (namesIn (metadataOf row parts)) schema table node 0
+  pub told : TableTells schema row parts table
 
 -- ---- what the judge answers
 
 -- What a lawful row hands on: the dictionary opened, where the outermost place stands, each schema field's id.
 pub record HandedOn (schema row : List ℕ) (table : List ℕ) (parts : RowParts) : Type 0 where
   pub in-order : InOrder row parts
-  pub told : (node : Schema) → schemaOf schema ≡ some node → Told (namesIn (metadataOf row parts)) schema table node 0
+  pub told : TableTells schema row parts table
 
 abbrev pub verdictIn : RowJudged → Verdict
 verdictIn (judged.Lawful parts) = Lawful

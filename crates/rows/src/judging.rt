@@ -6,7 +6,7 @@ ghost use lib.ListN.{length};
 ghost use Rattle.paper.specs.Limits.{mostRow};
 ghost use Rattle.paper.specs.Schemas.{schemaOf};
 ghost use Rattle.paper.specs.Words.{isThere};
-ghost use Rattle.rows.specs.Judging.{OpenedAs, RowReady, Walked, JudgedAs};
+ghost use Rattle.rows.specs.Judging.{OpenedAs, RowReady, TableTells, Walked, JudgedAs};
 use crate::walker::place;
 use dictionary::Judged;
 use dictionary::Names;
@@ -56,23 +56,20 @@ fn open_row(row: &[u8]) -> Opening
     Opening::At(RowParts { middle, names })
 }
 
-// Finds the id of each schema field, and walks the outermost place.
-fn walk(schema: &[u8], row: &[u8], parts: RowParts, order: &mut [u16], table: &mut [u16]) -> Verdict
-    requires { ⌜ RowReady (now schema) (now row) parts (now table) × (parts .names .sorted ≡ false → parts .names .count ≤ length (now order)) ⌝ }
-    ensures { λ r. ⌜ Walked (now (schema .entry)) (now (row .entry)) parts (now (table .exit)) r ⌝ }
+// Walks the outermost place, with a table that tells each schema field's id.
+fn outermost(schema: &[u8], row: &[u8], parts: RowParts, table: &[u16]) -> Verdict
+    requires { ⌜ RowReady (now schema) (now row) parts (now table) × TableTells (now schema) (now row) parts (now table) ⌝ }
+    ensures { λ r. ⌜ Walked (now (schema .entry)) (now (row .entry)) parts (now (table .entry)) r ⌝ }
 {
     let readings = heads::READINGS;
     let names = parts.names;
     let middle = parts.middle;
-    let metadata = &row[3..middle];
-    lookup::sort_names(metadata, names, order);
-    fields::fill(schema, metadata, names, order, table);
     let inner = middle + 3;
     let end = row.len();
     place(
         paper::MOST_LEVELS,
         &readings,
-        metadata,
+        &row[3..middle],
         names,
         schema,
         table,
@@ -81,11 +78,27 @@ fn walk(schema: &[u8], row: &[u8], parts: RowParts, order: &mut [u16], table: &m
     )
 }
 
-// The index of the names goes by their number; a sorted dictionary needs none.
+// Finds the id of each schema field, and walks the outermost place.
+fn walk(schema: &[u8], row: &[u8], parts: RowParts, order: &mut [u16], table: &mut [u16]) -> Verdict
+    requires { ⌜ RowReady (now schema) (now row) parts (now table) × (parts .names .sorted ≡ false → parts .names .count ≤ length (now order)) ⌝ }
+    ensures { λ r. ⌜ Walked (now (schema .entry)) (now (row .entry)) parts (now (table .exit)) r ⌝ }
+{
+    let names = parts.names;
+    let middle = parts.middle;
+    let metadata = &row[3..middle];
+    lookup::sort_names(metadata, names, order);
+    fields::fill(schema, metadata, names, order, table);
+    outermost(schema, row, parts, table)
+}
+
+// Where no field is named nothing is looked up. The index of the names goes by their number; a sorted dictionary needs none.
 fn walk_indexed(schema: &[u8], row: &[u8], parts: RowParts, table: &mut [u16]) -> Verdict
     requires { ⌜ RowReady (now schema) (now row) parts (now table) ⌝ }
     ensures { λ r. ⌜ Walked (now (schema .entry)) (now (row .entry)) parts (now (table .exit)) r ⌝ }
 {
+    if !fields::names_fields(schema) {
+        return outermost(schema, row, parts, table);
+    }
     let names = parts.names;
     if names.sorted {
         let mut order = [0u16; 1];
