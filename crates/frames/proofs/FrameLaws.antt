@@ -3,19 +3,18 @@ use mathlib.Core.Bool.{Bool, true, false, _&&_}
 use mathlib.Core.List.{List, [], _∷_}
 use mathlib.Core.Option.{Option, none, some, Option·some-injective as some-injective}
 use mathlib.Core.Path.{_≡_, refl, sym, ap, _∙_}
-use Prim.Native.Nat.{ℕ, zero, suc, _+_, _-_, _≤_, _<_}
+use Prim.Native.Nat.{ℕ, _+_, _-_, _≤_, _<_}
 use native.Mathlib.Omega.{arith}
 use borrow.Author.Tests.{le-leb, lt-leb, leb-true, leb-false}
 use lib.Dec.{leb}
 use lib.ListN.{length, take, drop, length-take, length-drop, drop-of-length-le}
-use lib.Seq.{drop-cons, drop-drop}
-use Rattle.frames.specs.Frames.{frameEnd, frameBy, frameAt, pieceIn}
+use Rattle.frames.proofs.PieceLaws.{part-rest, pieceThen, pieces-between}
+use Rattle.frames.specs.Frames.{endAt, frameEnd, frameBy, frameAt, pieceIn}
 use Rattle.frames.specs.declared.Frame.the-variants.{Ends, Cut}
 use Rattle.frames.specs.declared.Frame.{Frame}
 use Rattle.numbers.specs.Little.{numberAt}
 use Rattle.paper.specs.Framing.{Piece, piecesWithin, piecesOf}
 use Rattle.paper.specs.Words.{at, part, given, andThen, isThere}
-use Rattle.dictionary.proofs.NumbersRunLaws.{number-drop}
 use Rattle.paper.proofs.WordLaws.{never, given-some, then-some, some-there, and-both}
 
 -- ---- what the code tells
@@ -65,84 +64,19 @@ frame-fits s place end e =
 
 -- ---- the pieces of some bytes
 
--- As many pieces may be asked for as there are bytes, or more: it is the same.
-pub pieces-more : (n m : ℕ) (s : List ℕ) → length s ≤ n → length s ≤ m → piecesWithin n s ≡ piecesWithin m s
-unfolding piecesWithin
-pieces-more zero zero s h k = refl
-pieces-more zero (suc m) [] h k = refl
-pieces-more zero (suc m) (tag ∷ rest) h k = absurd (omega arith)
-pieces-more (suc n) zero [] h k = refl
-pieces-more (suc n) zero (tag ∷ rest) h k = absurd (omega arith)
-pieces-more (suc n) (suc m) [] h k = refl
-pieces-more (suc n) (suc m) (tag ∷ rest) h k =
-    let size : ℕ = numberAt rest 0 2 in
-    ap
-    (λ (x : Option (List Piece)). given (leb 2 (length rest) && leb (2 + size) (length rest))
-    (andThen x λ more. some (record { tag = tag; body = part rest 2 (2 + size) } ∷ more)))
-    (pieces-more n m (drop (2 + size) rest) (rw length-drop (omega arith)) (rw length-drop (omega arith)))
-
-pieces-cons : (tag : ℕ) (rest : List ℕ)
-    → piecesOf (tag ∷ rest)
-    ≡ given (leb 2 (length rest) && leb (2 + numberAt rest 0 2) (length rest))
-    (andThen (piecesOf (drop (2 + numberAt rest 0 2) rest)) λ more. some (record { tag = tag; body = part rest 2 (2 + numberAt rest 0 2) } ∷ more))
-unfolding piecesOf piecesWithin
-pieces-cons tag rest =
-    let size : ℕ = numberAt rest 0 2 in
-    ap
-    (λ (x : Option (List Piece)). given (leb 2 (length rest) && leb (2 + size) (length rest))
-    (andThen x λ more. some (record { tag = tag; body = part rest 2 (2 + size) } ∷ more)))
-    (pieces-more (length rest) (length (drop (2 + size) rest)) (drop (2 + size) rest) (rw length-drop (omega arith)) (omega arith))
-
 -- The pieces from a place on: the frame's, and those behind its end.
 unfoldable pub piecesBy : List ℕ → (place : ℕ) → Option ℕ → Option (List Piece)
 piecesBy s place none = none
 piecesBy s place (some end) = andThen (piecesOf (drop end s)) λ more. some (pieceIn s place end ∷ more)
 
-module _ (s : List ℕ) (place : ℕ) (h : place < length s) where
-  left : length (drop (suc place) s) + suc place ≡ length s
-  left = rw length-drop (omega arith)
-
-  size-same : numberAt (drop (suc place) s) 0 2 ≡ numberAt s (place + 1) 2
-  size-same = number-drop s (suc place) 0 2 ∙ ap (λ (p : ℕ). numberAt s p 2) (let e : suc place + 0 ≡ place + 1 = omega arith in e)
-
-  pub pieces-at : piecesOf (drop place s) ≡ piecesBy s place (frameEnd s place)
-  unfolding frameEnd piecesBy given
-  pieces-at =
-      ap piecesOf (drop-cons s place 0 h) ∙ pieces-cons (at s place) (drop (suc place) s)
-      ∙ go (numberAt (drop (suc place) s) 0 2) size-same (leb 2 (length (drop (suc place) s))) refl
-    where
-      end : (n : ℕ) → andThen (piecesOf (drop (2 + n) (drop (suc place) s))) (λ more. some (record { tag = at s place; body = part (drop (suc place) s) 2 (2 + n) } ∷ more))
-          ≡ andThen (piecesOf (drop (place + 3 + n) s)) λ more. some (pieceIn s place (place + 3 + n) ∷ more)
-      end n =
-          let a : 2 + n - 2 ≡ place + 3 + n - (place + 3) = omega arith in
-          let b : suc place + 2 ≡ place + 3 = omega arith in
-          let d : suc place + (2 + n) ≡ place + 3 + n = omega arith in
-          rw (drop-drop, drop-drop, a, b, d)
-
-      go : (n : ℕ) → n ≡ numberAt s (place + 1) 2 → (two : Bool) → leb 2 (length (drop (suc place) s)) ≡ two
-          → given (two && leb (2 + n) (length (drop (suc place) s)))
-          (andThen (piecesOf (drop (2 + n) (drop (suc place) s))) λ more. some (record { tag = at s place; body = part (drop (suc place) s) 2 (2 + n) } ∷ more))
-          ≡ piecesBy s place (given (leb (place + 3) (length s) && leb (place + 3 + numberAt s (place + 1) 2) (length s)) (some (place + 3 + numberAt s (place + 1) 2)))
-      go n e false f =
-          let few = leb-false 2 (length (drop (suc place) s)) f in
-          let all = left in
-          rw (lt-leb (place + 3) (length s) (omega arith))
-      go n e true f =
-          let two = leb-true 2 (length (drop (suc place) s)) f in
-          let all = left in
-          rw (le-leb (place + 3) (length s) (omega arith), ← e) (within n (leb (2 + n) (length (drop (suc place) s))) refl)
-        where
-          within : (n : ℕ) (b : Bool) → leb (2 + n) (length (drop (suc place) s)) ≡ b
-              → given b (andThen (piecesOf (drop (2 + n) (drop (suc place) s))) λ more. some (record { tag = at s place; body = part (drop (suc place) s) 2 (2 + n) } ∷ more))
-              ≡ piecesBy s place (given (leb (place + 3 + n) (length s)) (some (place + 3 + n)))
-          within n false g =
-              let past = leb-false (2 + n) (length (drop (suc place) s)) g in
-              let all = left in
-              rw (lt-leb (place + 3 + n) (length s) (omega arith))
-          within n true g =
-              let fits = leb-true (2 + n) (length (drop (suc place) s)) g in
-              let all = left in
-              rw (le-leb (place + 3 + n) (length s) (omega arith)) (end n)
+pub pieces-at : (s : List ℕ) (place : ℕ) → place < length s → piecesOf (drop place s) ≡ piecesBy s place (frameEnd s place)
+unfolding frameEnd piecesBy pieceThen given
+pieces-at s place h =
+    ap piecesOf (sym (part-rest s place)) ∙ pieces-between s place (length s) (omega arith) h ∙ go (leb (place + 3) (length s) && leb (endAt s place) (length s))
+  where
+    go : (b : Bool) → given b (pieceThen (pieceIn s place (endAt s place)) (piecesOf (part s (endAt s place) (length s)))) ≡ piecesBy s place (given b (some (endAt s place)))
+    go false = refl
+    go true = rw (part-rest s (endAt s place))
 
 -- Behind the last byte there is no piece.
 pub pieces-ended : (s : List ℕ) (place : ℕ) → length s ≤ place → piecesOf (drop place s) ≡ some []

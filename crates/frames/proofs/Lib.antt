@@ -1,2 +1,3 @@
 -- Laws of frames.
+pub mod PieceLaws
 pub mod FrameLaws

@@ -11,11 +11,13 @@ use Rattle.paper.specs.Words.{at, part, given}
 use Rattle.frames.specs.declared.Frame.{Frame}
 use Rattle.frames.specs.declared.Frame.the-variants.{Ends, Cut}
 
--- Where the frame that starts at a place ends, if it fits.
+-- Where the frame that starts at a place ends: behind its tag, its two-byte length and its body.
+abbrev pub endAt : List ℕ → (place : ℕ) → ℕ
+endAt s place = place + 3 + numberAt s (place + 1) 2
+
+-- The same, if it fits.
 unfoldable pub frameEnd : List ℕ → (place : ℕ) → Option ℕ
-frameEnd s place =
-    let end = place + 3 + numberAt s (place + 1) 2 in
-    given (leb (place + 3) (length s) && leb end (length s)) (some end)
+frameEnd s place = given (leb (place + 3) (length s) && leb (endAt s place) (length s)) (some (endAt s place))
 
 unfoldable pub frameBy : Option ℕ → Frame
 frameBy none = Cut

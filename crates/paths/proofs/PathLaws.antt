@@ -15,7 +15,7 @@ use Rattle.paper.specs.Paths.{stepOf, stepsOf, pathOf}
 use Rattle.paper.specs.Standing.{Step, byIndex}
 use Rattle.paper.specs.Words.{at, part, given, andThen, isThere}
 use Rattle.dictionary.proofs.NumbersRunLaws.{number-drop}
-use Rattle.frames.proofs.FrameLaws.{pieces-more}
+use Rattle.frames.proofs.PieceLaws.{pieces-more}
 use Rattle.paper.proofs.WordLaws.{never}
 
 -- ---- a path by its first piece

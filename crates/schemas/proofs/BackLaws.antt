@@ -16,7 +16,7 @@ use Rattle.paper.specs.Limits.{mostLevels}
 use Rattle.paper.specs.Schemas.{Schema, leftoverOnly, column, list, fields, SchemaFields, noColumns, named, columnOf, nodeTag, fieldParts, fieldNodes, nodeBy, nodeOf, schemaOf}
 use Rattle.paper.specs.Words.{part, given, andThen}
 use Rattle.paper.proofs.WordLaws.{never}
-use Rattle.schemas.proofs.FramingLaws.{pieceThen, pieces-cons}
+use Rattle.frames.proofs.PieceLaws.{pieceThen, pieces-cons}
 use Rattle.schemas.proofs.GoodLaws.{good-level, good-column, good-element, good-object, good-field}
 use Rattle.schemas.proofs.NodeLaws.{node-step}
 use Rattle.schemas.specs.Written.{schemaBytes, fieldsBytes, someField, goodSchema, goodFields}

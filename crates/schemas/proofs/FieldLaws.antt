@@ -12,7 +12,8 @@ use Rattle.paper.specs.Framing.{Piece, piecesOf, only, onePiece}
 use Rattle.paper.specs.Schemas.{Schema, SchemaFields, noColumns, named, fieldParts, fieldNodes, nodeOf}
 use Rattle.paper.specs.Words.{at, part, given, andThen}
 use Rattle.schemas.proofs.FrameLaws.{tagged-ends}
-use Rattle.schemas.proofs.FramingLaws.{pieceThen, pieces-ended, pieces-step}
+use Rattle.frames.proofs.PieceLaws.{pieceThen, pieces-none}
+use Rattle.schemas.proofs.FramingLaws.{pieces-step}
 use Rattle.schemas.specs.Frames.{frameEnd, pieceAt, frameWithin, taggedWithin}
 use Rattle.schemas.specs.Positions.{fieldNode, fieldName, fieldWithin, nodeIn, columnsIn}
 
@@ -47,7 +48,7 @@ module _ (levels : ℕ) (s : List ℕ) (from to : ℕ) (ordered : from ≤ to) (
 
       go : (b : Bool) → leb to from ≡ b → (andThen (piecesOf (part s from to)) λ parts. fieldParts (nodeOf levels) parts columns)
           ≡ given (frameWithin s from to && eqb (at s from) 0x32) (andThen (andThen (andThen (piecesOf (part s (frameEnd s from) to)) only) (nodeOf levels)) λ node. some (named (pieceAt s from .body) node columns))
-      go true e = let past : to ≤ from = leb-true to from e in rw (pieces-ended s from to past, lt-leb (from + 3) to (omega arith))
+      go true e = let past : to ≤ from = leb-true to from e in rw (pieces-none s from to past, lt-leb (from + 3) to (omega arith))
       go false e = rw (pieces-step s from to within (leb-false to from e)) (framed (frameWithin s from to))
 
 -- ---- a field, and those behind it
@@ -91,4 +92,4 @@ module _ (levels : ℕ) (s : List ℕ) (place to : ℕ) (more : place < to) (wit
 
 pub columns-ended : (levels : ℕ) (s : List ℕ) (place to : ℕ) → to ≤ place → columnsIn levels s place to ≡ some noColumns
 unfolding columnsIn andThen fieldNodes
-columns-ended levels s place to h = rw (pieces-ended s place to h)
+columns-ended levels s place to h = rw (pieces-none s place to h)

@@ -15,7 +15,8 @@ use Rattle.paper.specs.Limits.{mostLevels}
 use Rattle.paper.specs.Schemas.{Column, leftoverOnly, column, list, columnCode, columnOf, nodeTag, nodeBy, nodeOf, schemaOf}
 use Rattle.paper.specs.Words.{at, part, given, andThen, isThere}
 use Rattle.paper.proofs.WordLaws.{there-then}
-use Rattle.schemas.proofs.FramingLaws.{length-part, part-cons, one-piece, one-not}
+use Rattle.frames.proofs.PieceLaws.{length-part, part-cons}
+use Rattle.schemas.proofs.FramingLaws.{one-piece, one-not}
 use Rattle.schemas.specs.Frames.{frameEnd, pieceAt}
 use Rattle.schemas.specs.Positions.{nodeIn, objectIn}
 

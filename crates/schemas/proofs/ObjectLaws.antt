@@ -15,7 +15,8 @@ use Rattle.paper.specs.Schemas.{Schema, fields, SchemaFields, noColumns, named,
 use Rattle.paper.specs.Words.{part, given, andThen, isThere}
 use Rattle.schemas.proofs.FieldLaws.{fieldThen, columns-at, columns-ended}
 use Rattle.schemas.proofs.FieldFrameLaws.{FieldHere, field-here}
-use Rattle.schemas.proofs.FramingLaws.{pieceThen, pieces-ended, pieces-step}
+use Rattle.frames.proofs.PieceLaws.{pieceThen, pieces-none}
+use Rattle.schemas.proofs.FramingLaws.{pieces-step}
 use Rattle.schemas.specs.Frames.{frameEnd, pieceAt, frameWithin}
 use Rattle.schemas.specs.Positions.{fieldNode, fieldName, fieldWithin, followsAt, nodeIn, columnsIn, objectIn}
 
@@ -61,7 +62,7 @@ rising-then s last place (behindField h k) (some node) (some columns) =
 
 object-none : (levels : ℕ) (s : List ℕ) (from to : ℕ) → from ≡ to → false ≡ isThere (objectIn levels s from to)
 unfolding objectIn nodeBy andThen fieldNodes given isThere
-object-none levels s from to e = rw (pieces-ended s from to (omega arith))
+object-none levels s from to e = rw (pieces-none s from to (omega arith))
 
 -- Up to a field the fields are good: those from it on decide.
 pub record FieldsSeen (levels : ℕ) (s : List ℕ) (from to last place : ℕ) : Type 0 where

@@ -14,7 +14,8 @@ use Rattle.paper.specs.Metadata.{rising}
 use Rattle.paper.specs.Schemas.{Column, Schema, leftoverOnly, column, list, fields, SchemaFields, columnNames, columnCode, columnOf, NodeTag, leftoverTag, columnTag, listTag, fieldsTag, noNodeTag, nodeTag, fieldNodes, nodeBy, nodeOf, schemaOf}
 use Rattle.paper.specs.Words.{at, part, given, andThen, isThere}
 use Rattle.paper.proofs.WordLaws.{never, and-both, given-some, then-some}
-use Rattle.schemas.proofs.FramingLaws.{length-part, part-cons, pieces-ended, one-piece, one-not}
+use Rattle.frames.proofs.PieceLaws.{length-part, part-cons, pieces-none}
+use Rattle.schemas.proofs.FramingLaws.{one-piece, one-not}
 use Rattle.schemas.proofs.NodeLaws.{schema-node}
 use Rattle.schemas.specs.Frames.{frameEnd, pieceAt}
 use Rattle.schemas.specs.Positions.{nodeIn, columnsIn, Stands, FieldsStand}
@@ -123,7 +124,7 @@ module _ (levels : ℕ) (s : List ℕ) (place : ℕ) (within : frameEnd s place 
     where
       go : (b : Bool) → leb (frameEnd s place) (place + 3) ≡ b → place + 3 < frameEnd s place
       go true e =
-          let ended : piecesOf (bodyAt s place) ≡ some [] = pieces-ended s (place + 3) (frameEnd s place) (leb-true (frameEnd s place) (place + 3) e) in
+          let ended : piecesOf (bodyAt s place) ≡ some [] = pieces-none s (place + 3) (frameEnd s place) (leb-true (frameEnd s place) (place + 3) e) in
           let empty : [] ≡ pieces = cc in
           absurd (omega (arith, ap length empty))
       go false e = leb-false (frameEnd s place) (place + 3) e

@@ -13,7 +13,7 @@ use Rattle.paper.specs.Limits.{mostLevels}
 use Rattle.paper.specs.Schemas.{Schema, leftoverOnly, column, list, fields, SchemaFields, noColumns, named, schemaOf}
 use Rattle.paper.specs.Words.{at, part}
 use Rattle.schemas.proofs.FieldsStandLaws.{field-stands, no-columns}
-use Rattle.schemas.proofs.FramingLaws.{length-part, part-cons, part-none}
+use Rattle.frames.proofs.PieceLaws.{length-part, part-cons, part-none}
 use Rattle.schemas.proofs.StandingLaws.{leftover-stands, column-stands, list-stands, object-stands, schema-stands}
 use Rattle.schemas.specs.Frames.{frameEnd, pieceAt}
 use Rattle.schemas.specs.Positions.{fieldNode, Stands, FieldsStand}

@@ -3,16 +3,16 @@ use mathlib.Core.Bool.{Bool, _&&_}
 use mathlib.Core.List.{List}
 use Prim.Native.Nat.{ℕ, _+_}
 use lib.Dec.{leb, eqb}
-use Rattle.numbers.specs.Little.{numberAt}
+use Rattle.frames.specs.Frames.{endAt, pieceIn}
 use Rattle.paper.specs.Framing.{Piece}
-use Rattle.paper.specs.Words.{at, part}
+use Rattle.paper.specs.Words.{at}
 
--- Where the frame at a position ends: behind its tag, its two-byte length and its body.
+-- Where the frame at a position ends, and its piece.
 abbrev pub frameEnd : List ℕ → ℕ → ℕ
-frameEnd s place = place + 3 + numberAt s (place + 1) 2
+frameEnd s place = endAt s place
 
 abbrev pub pieceAt : List ℕ → ℕ → Piece
-pieceAt s place = record { tag = at s place; body = part s (place + 3) (frameEnd s place) }
+pieceAt s place = pieceIn s place (frameEnd s place)
 
 -- The frame at a position is whole, and ends at another at the latest.
 unfoldable pub frameWithin : List ℕ → (place end : ℕ) → Bool
