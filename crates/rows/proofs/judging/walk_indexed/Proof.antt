@@ -1,4 +1,4 @@
--- `walk_indexed`: nothing is told of no field; the index has room for every name, or none is needed.
+-- `walk_indexed`: where no field is named every table tells; the index has room for every name, or none is needed.
 use native.Mathlib.Omega.{arith}
 use borrow.Author.Needs.{needs}
 use Rattle.rows.proofs.JudgeLaws.{ready-few, nothing-told, sorted-none}
