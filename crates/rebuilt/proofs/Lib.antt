@@ -1,1 +1,3 @@
 -- What is rebuilt is the normal form of what the row means: laws.
+pub mod CellLaws
+pub mod NumberedLaws
