@@ -1,3 +1,4 @@
 -- What is rebuilt is the normal form of what the row means: laws.
 pub mod CellLaws
 pub mod NumberedLaws
+pub mod MergeLaws
