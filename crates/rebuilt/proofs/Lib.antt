@@ -2,3 +2,4 @@
 pub mod CellLaws
 pub mod NumberedLaws
 pub mod MergeLaws
+pub mod LeftLaws
