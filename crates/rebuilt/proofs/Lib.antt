@@ -3,3 +3,5 @@ pub mod CellLaws
 pub mod NumberedLaws
 pub mod MergeLaws
 pub mod LeftLaws
+pub mod HeldLaws
+pub mod PartsLaws
