@@ -5,3 +5,5 @@ pub mod MergeLaws
 pub mod LeftLaws
 pub mod HeldLaws
 pub mod PartsLaws
+pub mod NamedLaws
+pub mod TypedLaws
