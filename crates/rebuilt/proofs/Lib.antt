@@ -7,3 +7,5 @@ pub mod HeldLaws
 pub mod PartsLaws
 pub mod NamedLaws
 pub mod TypedLaws
+pub mod MemberLaws
+pub mod RebuiltLaws
