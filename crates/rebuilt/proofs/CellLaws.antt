@@ -2,14 +2,14 @@
 use mathlib.Core.Bool.{Bool, true, false, cond, _&&_}
 use mathlib.Core.List.{List, [], _∷_}
 use mathlib.Core.Option.{some, Option·some-injective as some-injective}
-use mathlib.Core.Path.{_≡_, refl, sym, ap, _∙_}
+use mathlib.Core.Path.{_≡_, refl, ap, _∙_}
 use Prim.Native.Nat.{ℕ, _*_}
 use native.Mathlib.Omega.{arith}
 use borrow.Author.Tests.{eqb-true}
 use lib.Dec.{leb, eqb}
 use lib.ListN.{length, getD}
 use Rattle.paper.proofs.WordLaws.{given-some}
-use Rattle.paper.specs.Cells.{BodyKind, yesNo, string, binary, sized, bodyKind, cellBy, cellMeaning}
+use Rattle.paper.specs.Cells.{yesNo, string, binary, sized, bodyKind, cellBy, cellMeaning}
 use Rattle.paper.specs.FirstBytes.{payloadSizes}
 use Rattle.paper.specs.Meaning.{Scalar, boolean, payload, text, textMeaning}
 use Rattle.paper.specs.Normal.{textBytes, prefixedBytes, scalarBytes}

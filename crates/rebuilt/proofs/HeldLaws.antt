@@ -3,11 +3,10 @@ use mathlib.Core.Bool.{Bool, true, false, not, _&&_, _||_}
 use mathlib.Core.List.{List, [], _∷_}
 use mathlib.Core.Option.{Option, none, some, Option·some-injective as some-injective}
 use mathlib.Core.Path.{_≡_, refl, sym, ap, subst, _∙_}
-use Prim.Native.Nat.{ℕ, zero, suc, _+_, _-_, _≤_, _<_}
+use Prim.Native.Nat.{ℕ, _+_, _-_, _≤_}
 use native.Mathlib.Omega.{arith}
-use borrow.Author.Tests.{not-true, not-false}
 use lib.Dec.{eqb}
-use lib.ListN.{length, getD, take, drop, length-take, length-drop}
+use lib.ListN.{length, drop, length-take, length-drop}
 use Rattle.forms.proofs.LieLaws.{Bytes, bytes-drop, bytes-take}
 use Rattle.frames.proofs.FrameLaws.{pieces-ended, pieces-first-is}
 use Rattle.paper.proofs.WordLaws.{never, given-some, then-some, and-both, some-there}
@@ -41,6 +40,12 @@ module _ (left : List ℕ → Option Doc) (right : List ℕ → Option Typed) (b
   unfolding andThen placeParts given isThere
   place-held e = go (partsOf body) (told body)
     where
+      beside : (middle : ℕ) (d : Doc) → left (part body 3 middle) ≡ some d
+          → andThen (right (part body (middle + 3) (length body))) (λ t. some (both d t)) ≡ some p → Held left right body (Both middle) p
+      beside middle d meant f =
+          let read = then-some (right (part body (middle + 3) (length body))) (λ t. some (both d t)) f in
+          subst (Held left right body (Both middle)) (some-injective (both d (read .0)) p (read .2)) (bothHeld meant (read .1))
+
       go : (q : Parts) → Told body q → Held left right body q p
       go Empty t =
           let is : empty ≡ p = some-injective empty p (rw (pieces-ended body 0 (omega arith)) at e) in
@@ -52,10 +57,8 @@ module _ (left : List ℕ → Option Doc) (right : List ℕ → Option Typed) (b
           let read = then-some (right (part body 3 (length body))) (λ t. some (typed t)) (rw (t .pieces, t .tagged) at e) in
           subst (Held left right body TypedPart) (some-injective (typed (read .0)) p (read .2)) (typedHeld (read .1))
       go (Both middle) t =
-          let meant = then-some (left (part body 3 middle)) (λ d. andThen (right (part body (middle + 3) (length body))) λ t. some (both d t))
-          (rw (t .pieces, t .first-tag, t .second-tag) at e) in
-          let read = then-some (right (part body (middle + 3) (length body))) (λ t. some (both (meant .0) t)) (meant .2) in
-          subst (Held left right body (Both middle)) (some-injective (both (meant .0) (read .0)) p (read .2)) (bothHeld (meant .1) (read .1))
+          let meant = then-some (left (part body 3 middle)) _ (rw (t .pieces, t .first-tag, t .second-tag) at e) in
+          beside middle (meant .0) (meant .1) (meant .2)
       go Unframed t = never (sym (some-there none (sym (t left right) ∙ e)))
 
 pub under-held : (under : Schema) (levels : ℕ) (names : Dictionary) (piece : Piece) (p : Place) → placeUnder under levels names piece ≡ some p
@@ -92,11 +95,8 @@ unfolding breaksF
 present-named names name p present keeps = go (hasLeftover p || hasTyped p) (among name names) present keeps
   where
     go : (a b : Bool) → a ≡ true → not (a && not b) ≡ true → b ≡ true
-    go true b e f = f′ b f
-      where
-        f′ : (b : Bool) → not (not b) ≡ true → b ≡ true
-        f′ true g = refl
-        f′ false g = never (sym g)
+    go true true e f = refl
+    go true false e f = never (sym f)
     go false b e f = never (sym e)
 
 -- ---- what the rules say

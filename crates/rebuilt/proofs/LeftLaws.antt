@@ -1,6 +1,6 @@
 -- The members of a leftover object are the fields that it means, and their names rise; an object without members has none.
-use mathlib.Core.Bool.{Bool, true, false, cond, _&&_}
-use mathlib.Core.List.{List, [], _∷_, map}
+use mathlib.Core.Bool.{Bool, true, false, cond}
+use mathlib.Core.List.{List, [], _∷_}
 use mathlib.Core.Option.{none, some, Option·some-injective as some-injective}
 use mathlib.Core.Path.{_≡_, refl, sym, ap, subst, _∙_}
 use Prim.Native.Nat.{ℕ, zero, suc, _-_, _+_, _/_, _%_, _≤_}
@@ -18,7 +18,7 @@ use Rattle.numbers.specs.Little.{number, numberAt}
 use Rattle.paper.proofs.WordLaws.{never, given-some, then-some, and-both, some-there}
 use Rattle.paper.specs.Bounds.{mostWalked}
 use Rattle.paper.specs.FirstBytes.{readingOf, kindReading, countSize}
-use Rattle.paper.specs.Meaning.{Doc, object, Fields, noFields, field}
+use Rattle.paper.specs.Meaning.{object, Fields, noFields, field}
 use Rattle.paper.specs.Metadata.{Dictionary, rising}
 use Rattle.paper.specs.Normal.{fieldNames, memberBytes}
 use Rattle.paper.specs.Rebuilding.{fieldsIn}
@@ -26,14 +26,13 @@ use Rattle.paper.specs.Rules.{isObject}
 use Rattle.paper.specs.Values.{headSize, childrenAt, areaOf, startsOf, idsOf, namesAt, membersOf, memberDocs, meaningBy, meaningOf, whole}
 use Rattle.paper.specs.Words.{at, isThere, numbers}
 use Rattle.paper.specs.declared.Reading.the-variants.{ObjectHead, Nothing}
-use Rattle.paper.specs.declared.Reading.{Reading}
 use Rattle.rebuilt.proofs.MergeLaws.{IsField, AreFields, noneAre, oneMore}
 use Rattle.rebuilt.proofs.NumberedLaws.{numbered-front, numbered-behind, numbered-more, numbered-rank, numbered-there}
 use Rattle.rebuilt.specs.Members.{membersWith, leftMembersBy, leftMembers, noLeft}
 use Rattle.rebuilt.specs.There.{Numbered}
 use Rattle.values.proofs.ValueLaws.{object-container, object-id}
 use Rattle.writing.proofs.MeaningLaws.{members-written, names-length, rewritten-is}
-use Rattle.writing.specs.Rewritten.{partAt, partsOf, rewritten}
+use Rattle.writing.specs.Rewritten.{partsOf, rewritten}
 use Rattle.writing.specs.Written.{Right}
 
 -- ---- an object's own byte

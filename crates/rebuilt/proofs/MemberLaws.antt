@@ -1,9 +1,9 @@
 -- An object's places one at a time: one that is present is a member with its field's id, which has the field's name, and an
 -- empty one is none.
-use mathlib.Core.Bool.{Bool, true, false, not, _&&_, _||_}
+use mathlib.Core.Bool.{true, not, _&&_}
 use mathlib.Core.List.{List, [], _∷_, _++_}
 use mathlib.Core.Option.{Option, none, some, Option·some-injective as some-injective}
-use mathlib.Core.Path.{_≡_, refl, sym, ap, subst, _∙_}
+use mathlib.Core.Path.{_≡_, sym, ap, subst, _∙_}
 use Prim.Native.Nat.{ℕ}
 use Rattle.fields.specs.Telling.{lookedAt}
 use Rattle.lookup.specs.Looking.{Tells, found, missing}
@@ -15,7 +15,7 @@ use Rattle.paper.specs.Meaning.{Doc, Fields}
 use Rattle.paper.specs.Metadata.{Dictionary}
 use Rattle.paper.specs.Normal.{valueBytes}
 use Rattle.paper.specs.Rebuilding.{placeMeaningBy, orNull, addField, placeMeaning, fieldsMeaning}
-use Rattle.paper.specs.Rows.{Place, empty, Places, noPlaces, place, leftoverMeaning, placeUnder, fieldPlaces}
+use Rattle.paper.specs.Rows.{Place, Places, place, leftoverMeaning, placeUnder, fieldPlaces}
 use Rattle.paper.specs.Rules.{breaksF, placeLawful, fieldsLawful}
 use Rattle.paper.specs.Schemas.{Schema, SchemaFields, noColumns, named}
 use Rattle.paper.specs.Words.{isThere, among}
@@ -25,7 +25,7 @@ use Rattle.rebuilt.proofs.HeldLaws.{Held, under-held, empty-held, prese
 use Rattle.rebuilt.proofs.MergeLaws.{AreFields, noneAre, oneMore}
 use Rattle.rebuilt.proofs.NumberedLaws.{numbered-front, numbered-behind, numbered-more, numbered-rank, numbered-there}
 use Rattle.rebuilt.proofs.PartsLaws.{typedMeaning, meaning-parts}
-use Rattle.rebuilt.proofs.TypedLaws.{PlaceHere, PlaceIs, MembersHere, MembersAre}
+use Rattle.rebuilt.proofs.TypedLaws.{PlaceIs, MembersAre}
 use Rattle.rebuilt.specs.Members.{Member}
 use Rattle.rebuilt.specs.Rebuilt.{addMember, placeRebuilt, memberPlaces}
 use Rattle.rebuilt.specs.There.{Numbered}

@@ -11,13 +11,12 @@ use lib.ListN.{getD}
 use Rattle.names.proofs.IdLaws.{id-rises}
 use Rattle.names.proofs.RisingLaws.{rising-more, rising-first}
 use Rattle.names.proofs.SameLaws.{same-refl, among-first}
-use Rattle.order.proofs.OrderLaws.{before-asymmetric, before-irreflexive, before-transitive, before-total}
+use Rattle.order.proofs.OrderLaws.{before-asymmetric, before-transitive, before-total}
 use Rattle.order.specs.Before.{before, orderOf}
-use Rattle.order.specs.declared.Order.the-variants.{Less, Equal, Greater}
 use Rattle.paper.proofs.WordLaws.{never}
 use Rattle.paper.specs.Meaning.{Doc, object, Fields, noFields, field}
 use Rattle.paper.specs.Metadata.{Dictionary, rising}
-use Rattle.paper.specs.Normal.{idOf, fieldNames, valueBytes, memberBytes, objectBytes}
+use Rattle.paper.specs.Normal.{idOf, fieldNames, valueBytes, memberBytes}
 use Rattle.paper.specs.Rebuilding.{insertFieldBy, insertField, merge}
 use Rattle.paper.specs.Rules.{anyNamed}
 use Rattle.paper.specs.Words.{same, among}

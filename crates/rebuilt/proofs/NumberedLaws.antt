@@ -1,21 +1,17 @@
 -- Ids that are numbered: so is each part of them, and the first one's number is its name's place in the normal dictionary.
-use mathlib.Core.Bool.{Bool, true, false, _||_}
+use mathlib.Core.Bool.{true}
 use mathlib.Core.List.{List, [], _∷_, _++_}
-use mathlib.Core.Path.{_≡_, refl, sym, ap, _∙_}
+use mathlib.Core.Path.{_≡_, sym, ap, _∙_}
 use Prim.Native.Nat.{ℕ}
 use lib.ListN.{length, getD}
 use Rattle.marking.specs.Ids.{holds}
 use Rattle.names.proofs.SameLaws.{or-second}
-use Rattle.paper.proofs.WordLaws.{never}
 use Rattle.paper.specs.Metadata.{Dictionary}
 use Rattle.paper.specs.Normal.{idOf}
 use Rattle.paper.specs.Words.{among}
 use Rattle.ranking.proofs.HeldLaws.{held-first, held-append, below-both}
+use Rattle.writing.proofs.MeaningLaws.{or-first}
 use Rattle.rebuilt.specs.There.{Numbered}
-
-or-first : (a b : Bool) → a ≡ true → a || b ≡ true
-or-first true b e = refl
-or-first false b e = never (sym e)
 
 module _ {names normal : Dictionary} {ranks : List ℕ} where
   pub numbered-front : (front behind : List ℕ) → Numbered names normal ranks (front ++ behind) → Numbered names normal ranks front

@@ -1,16 +1,13 @@
 -- What a place is rebuilt to, the ids that it uses and what it means, each by its parts: from its leftover and from what is
 -- typed in it.
 use mathlib.Core.List.{List, [], _∷_, _++_, append-nil}
-use mathlib.Core.Option.{Option}
 use mathlib.Core.Path.{_≡_, refl, sym}
 use Prim.Native.Nat.{ℕ}
-use lib.ListN.{length}
 use Rattle.marking.specs.Ids.{idsIn}
 use Rattle.paper.specs.Meaning.{Doc, array, object}
 use Rattle.paper.specs.Rebuilding.{placeMeaningBy, cellDoc, innerDoc, listMeaning, placeMeaning, fieldsMeaning}
-use Rattle.paper.specs.Rows.{Place, Typed}
+use Rattle.paper.specs.Rows.{Typed}
 use Rattle.paper.specs.Schemas.{Schema, leftoverOnly, column, list, fields}
-use Rattle.paper.specs.Words.{part}
 use Rattle.places.specs.Parts.{partsOf}
 use Rattle.places.specs.declared.parts.Parts.the-variants.{Empty, Leftover, Typed as TypedPart, Both, Unframed}
 use Rattle.places.specs.declared.parts.Parts.{Parts}

@@ -1,6 +1,6 @@
 -- What a place of a lawful row is rebuilt to is the normal form of what it means: by its parts, and by induction over its node.
 use mathlib.Core.Bool.{Bool, true, false, cond}
-use mathlib.Core.List.{List, [], _∷_, _++_}
+use mathlib.Core.List.{List, [], _∷_}
 use mathlib.Core.Option.{Option, none, some}
 use mathlib.Core.Path.{_≡_, refl, sym, ap, _∙_}
 use Prim.Native.Nat.{ℕ, _+_, _-_, _≤_, _<_}
@@ -10,15 +10,15 @@ use lib.ListN.{length, getD}
 use Rattle.fields.proofs.TellingLaws.{element-told, fields-told, field-told}
 use Rattle.fields.specs.Telling.{Told, FieldsTold}
 use Rattle.marking.specs.Ids.{idsIn}
-use Rattle.paper.proofs.WordLaws.{never, given-some}
+use Rattle.paper.proofs.WordLaws.{given-some}
 use Rattle.paper.specs.Bounds.{mostWalked}
 use Rattle.paper.specs.Framing.{Piece}
 use Rattle.paper.specs.Limits.{mostLeftover}
 use Rattle.paper.specs.Meaning.{Doc, object}
 use Rattle.paper.specs.Metadata.{Dictionary, rising}
 use Rattle.paper.specs.Normal.{valueBytes}
-use Rattle.paper.specs.Rebuilding.{merge, fieldsIn, orNull, placeMeaningBy, placeMeaning}
-use Rattle.paper.specs.Rows.{Place, both, leftoverMeaning, placeUnder}
+use Rattle.paper.specs.Rebuilding.{merge, fieldsIn, orNull, placeMeaningBy}
+use Rattle.paper.specs.Rows.{Place, leftoverMeaning, placeUnder}
 use Rattle.paper.specs.Rules.{placeLawful}
 use Rattle.paper.specs.Schemas.{Schema, leftoverOnly, column, list, fields, SchemaFields, noColumns, named}
 use Rattle.paper.specs.Values.{meaningOf}
@@ -26,18 +26,17 @@ use Rattle.paper.specs.Words.{part, andThen}
 use Rattle.places.specs.Parts.{partsOf}
 use Rattle.places.specs.Verdicts.{verdictOf, typedUnder, placeVerdict}
 use Rattle.places.specs.declared.parts.Parts.{Parts}
-use Rattle.places.specs.declared.verdicts.Verdict.the-variants.{Lawful, Broken, Unparsed}
-use Rattle.places.specs.declared.verdicts.Verdict.{Verdict}
+use Rattle.places.specs.declared.verdicts.Verdict.the-variants.{Lawful, Broken}
 use Rattle.rebuilt.proofs.HeldLaws.{Held, nothingHeld, leftHeld, typedHeld, bothHeld, under-held, typed-keeps, both-keep, Fits, part-fits}
 use Rattle.rebuilt.proofs.MemberLaws.{no-members, more-members}
 use Rattle.rebuilt.proofs.NumberedLaws.{numbered-front, numbered-behind}
 use Rattle.rebuilt.proofs.PartsLaws.{rebuilt-parts, insideIds, ids-parts, typedMeaning, meaning-parts}
-use Rattle.rebuilt.proofs.TypedLaws.{PlaceHere, PlaceIs, MembersAre, TypedIs, leftover-typed, cell-typed, list-typed, object-typed}
+use Rattle.rebuilt.proofs.TypedLaws.{PlaceIs, MembersAre, TypedIs, leftover-typed, cell-typed, list-typed, object-typed}
 use Rattle.rebuilt.specs.Meant.{placeDoc}
 use Rattle.rebuilt.specs.Members.{noLeft}
 use Rattle.rebuilt.specs.Rebuilt.{rebuiltBy, placeRebuilt, typedRebuilt}
 use Rattle.rebuilt.specs.There.{Numbered}
-use Rattle.rebuilt.specs.Using.{placeIds, typedIds}
+use Rattle.rebuilt.specs.Using.{placeIds}
 use Rattle.schemas.specs.Frames.{frameEnd}
 use Rattle.schemas.specs.Positions.{fieldNode, Stands}
 use Rattle.writing.proofs.MeaningLaws.{rewritten-is}

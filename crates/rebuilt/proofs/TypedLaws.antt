@@ -1,16 +1,15 @@
 -- What is typed in a place is rebuilt to the normal form of what it means, if the places inside it are: a cell, a list's
 -- places, an object's places merged with the members of a leftover.
-use mathlib.Core.Bool.{Bool, true, false, not, _&&_, _||_}
-use mathlib.Core.List.{List, [], _∷_, _++_, map}
+use mathlib.Core.Bool.{true, false, not, _&&_}
+use mathlib.Core.List.{List, [], _∷_, map}
 use mathlib.Core.Option.{Option, none, some, Option·some-injective as some-injective}
-use mathlib.Core.Path.{_≡_, refl, sym, ap, subst, _∙_}
+use mathlib.Core.Path.{_≡_, refl, sym, ap, _∙_}
 use Prim.Native.Nat.{ℕ, _+_, _-_}
-use lib.ListN.{length}
 use Rattle.marking.specs.Ids.{idsIn}
 use Rattle.paper.proofs.WordLaws.{never, then-some, and-both, some-there}
 use Rattle.paper.specs.Cells.{cellMeaning}
 use Rattle.paper.specs.Framing.{Piece, piecesOf}
-use Rattle.paper.specs.Meaning.{Doc, scalar, array, object, Docs, noDocs, Fields}
+use Rattle.paper.specs.Meaning.{object, Fields}
 use Rattle.paper.specs.Metadata.{Dictionary, rising}
 use Rattle.paper.specs.Normal.{fieldNames, arrayBytes, valueBytes, elementBytes}
 use Rattle.paper.specs.Rebuilding.{merge, fieldsIn, orNull, cellDoc, innerDoc, listMeaning, placeMeaning, fieldsMeaning}
@@ -21,13 +20,13 @@ use Rattle.paper.specs.Values.{meaningOf}
 use Rattle.paper.specs.Words.{isThere, joined}
 use Rattle.places.specs.Verdicts.{typedUnder, typedLawful}
 use Rattle.rebuilt.proofs.CellLaws.{cell-is}
-use Rattle.rebuilt.proofs.HeldLaws.{Fits, AllFit, noneFit, oneFits, pieces-fit}
+use Rattle.rebuilt.proofs.HeldLaws.{Fits, AllFit, oneFits, pieces-fit}
 use Rattle.rebuilt.proofs.LeftLaws.{left-are, left-rises, none-left}
 use Rattle.rebuilt.proofs.MergeLaws.{AreFields, noneAre, object-is, merged-are}
 use Rattle.rebuilt.proofs.NamedLaws.{meant-named, fewer-named}
 use Rattle.rebuilt.proofs.NumberedLaws.{numbered-front, numbered-behind}
 use Rattle.rebuilt.proofs.PartsLaws.{typedMeaning}
-use Rattle.rebuilt.specs.Members.{mergedBy, leftMembers, noLeft, normalIdOf, objectOf}
+use Rattle.rebuilt.specs.Members.{noLeft}
 use Rattle.rebuilt.specs.Rebuilt.{cellValue, listed, piecesIn, placeRebuilt, memberPlaces, typedRebuilt}
 use Rattle.rebuilt.specs.There.{Numbered}
 use Rattle.rebuilt.specs.Using.{placeIds, memberIds, elementIds, typedIds}

@@ -33,7 +33,7 @@ use Rattle.writing.proofs.AsItStandsLaws.{fixed-stands, prefixed-stands
 
 -- ---- ids of a part, and of the whole
 
-or-first : (a b : Bool) → a ≡ true → a || b ≡ true
+pub or-first : (a b : Bool) → a ≡ true → a || b ≡ true
 or-first true b e = refl
 or-first false b e = never (sym e)
 
