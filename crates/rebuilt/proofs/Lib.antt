@@ -1,1 +1,2 @@
 -- What is rebuilt is the normal form of what the row means: laws.
+pub mod MergeNamesLaws
