@@ -1,2 +1,3 @@
 -- What is rebuilt is the normal form of what the row means: laws.
 pub mod MergeNamesLaws
+pub mod UsesLaws
