@@ -1,15 +1,14 @@
 -- The names that two objects' fields use together once they are merged: those of both. A field put among others replaces the one
 -- of its own name, so no name may stand twice: a leftover's names rise, and by rule c none of them is the node's.
-use mathlib.Core.Bool.{Bool, true, false, cond, not, _&&_, _||_, or-assoc}
-use mathlib.Core.List.{List, [], _∷_}
-use mathlib.Core.Option.{Option, none, some}
+use mathlib.Core.Bool.{Bool, true, false, cond, _||_, or-assoc}
+use mathlib.Core.List.{List, _∷_}
 use mathlib.Core.Path.{_≡_, refl, sym, ap, _∙_}
-use Prim.Native.Nat.{ℕ, zero, suc}
-use Rattle.names.specs.Used.{usedIn, usedInAll, usedInFields}
+use Prim.Native.Nat.{ℕ}
+use Rattle.names.specs.Used.{usedIn, usedInFields}
 use Rattle.order.specs.Before.{before, orderOf}
 use Rattle.order.specs.declared.Order.the-variants.{Less, Equal, Greater}
-use Rattle.paper.specs.Meaning.{Doc, null, scalar, array, object, Fields, noFields, field}
-use Rattle.paper.specs.Metadata.{Dictionary, rising}
+use Rattle.paper.specs.Meaning.{Doc, Fields, noFields, field}
+use Rattle.paper.specs.Metadata.{rising}
 use Rattle.paper.specs.Normal.{insertBy, insertName, fieldNames}
 use Rattle.paper.specs.Rebuilding.{insertFieldBy, insertField, merge}
 use Rattle.paper.specs.Rules.{anyNamed}

@@ -1,8 +1,8 @@
 -- A place uses what its leftover uses and what is typed in it uses: its ids by its parts, and what it means by them.
-use mathlib.Core.Bool.{Bool, true, false, cond, not, _&&_, _||_}
-use mathlib.Core.List.{List, [], _∷_, _++_, map, append-nil}
+use mathlib.Core.Bool.{Bool, true, false, not, _&&_, _||_}
+use mathlib.Core.List.{List, [], _∷_, _++_, append-nil}
 use mathlib.Core.Option.{Option, none, some, Option·some-injective as some-injective}
-use mathlib.Core.Path.{_≡_, refl, sym, ap, subst, _∙_}
+use mathlib.Core.Path.{_≡_, refl, sym, ap, _∙_}
 use Prim.Native.Nat.{ℕ, zero, suc, _+_, _-_}
 use native.Mathlib.Omega.{arith}
 use lib.Dec.{leb, eqb}
@@ -10,15 +10,15 @@ use lib.ListN.{length}
 use Rattle.forms.specs.WellFormed.{allMembers, wellFormedBy, wellFormed}
 use Rattle.frames.proofs.FrameLaws.{pieces-ended}
 use Rattle.marking.specs.Ids.{idsIn}
-use Rattle.names.specs.Used.{usedIn, usedInFields}
+use Rattle.names.specs.Used.{usedIn}
 use Rattle.paper.specs.Framing.{Piece, piecesOf}
 use Rattle.paper.specs.Limits.{mostLeftover}
-use Rattle.paper.specs.Meaning.{Doc, null, scalar, array, object, Fields, noFields, field}
+use Rattle.paper.specs.Meaning.{Doc, null, scalar, array, object, Fields, noFields}
 use Rattle.paper.specs.Metadata.{Dictionary, rising}
 use Rattle.paper.specs.Normal.{fieldNames}
 use Rattle.paper.specs.Rebuilding.{merge, fieldsIn, orNull, placeMeaningBy, cellDoc, innerDoc, listMeaning, addField, placeMeaning, fieldsMeaning}
 use Rattle.paper.specs.Rows.{Place, empty, leftover, typed, both, Typed, cell, inner, Places, noPlaces, place, leftoverMeaning, placeParts, placeBy, placeWithin, placeUnder}
-use Rattle.paper.specs.Rules.{hasLeftover, hasTyped, leftoverOf, isObject, isFieldsNode, namedBy, anyNamed, hasAny, breaksA, breaksB, breaksC, breaksD, insideLawful, placeLawfulBy, placeLawful}
+use Rattle.paper.specs.Rules.{hasLeftover, hasTyped, leftoverOf, isObject, isFieldsNode, namedBy, hasAny, breaksA, breaksB, breaksC, breaksD, insideLawful, placeLawfulBy, placeLawful}
 use Rattle.paper.specs.Schemas.{Schema, leftoverOnly, column, list, fields, SchemaFields, noColumns, named, columnNames}
 use Rattle.paper.specs.Values.{meaningOf}
 use Rattle.paper.specs.Words.{part, given, andThen, same, among, isThere}
@@ -28,11 +28,10 @@ use Rattle.places.specs.Verdicts.{typedUnder, typedLawful}
 use Rattle.places.specs.declared.parts.Parts.the-variants.{Empty, Leftover, Typed as TypedPart, Both, Unframed}
 use Rattle.places.specs.declared.parts.Parts.{Parts}
 use Rattle.forms.proofs.WellFormedLaws.{decoded-well-formed}
-use Rattle.names.proofs.SameLaws.{among-first, among-either, among-more}
+use Rattle.names.proofs.SameLaws.{among-more}
 use Rattle.paper.proofs.WordLaws.{never, and-both, given-some, then-some, some-there}
 use Rattle.places.proofs.PlaceLaws.{Told, told}
 use Rattle.places.proofs.VerdictLaws.{place-under, place-lawful}
-use Rattle.rebuilt.specs.Members.{noLeft}
 use Rattle.rebuilt.specs.Rebuilt.{rebuiltBy, piecesIn}
 use Rattle.rebuilt.specs.Using.{placeIds, memberIds, elementIds}
 use Rattle.rebuilt.proofs.MergeNamesLaws.{merge-used}

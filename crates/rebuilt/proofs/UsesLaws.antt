@@ -1,8 +1,8 @@
 -- Some ids against the names that something uses: each is an id of the dictionary, and their names are those used.
-use mathlib.Core.Bool.{Bool, true, false, cond, not, _&&_, _||_}
+use mathlib.Core.Bool.{Bool, true, false, not, _&&_, _||_}
 use mathlib.Core.List.{List, [], _∷_, _++_, map}
 use mathlib.Core.Option.{Option, none, some, Option·some-injective as some-injective}
-use mathlib.Core.Path.{_≡_, refl, sym, ap, subst, _∙_}
+use mathlib.Core.Path.{_≡_, refl, sym, ap, _∙_}
 use Prim.Native.Nat.{ℕ, zero, suc, _<_}
 use native.Mathlib.Omega.{arith}
 use borrow.Author.Tests.{lt-ltb, ne-eqb}
@@ -15,10 +15,10 @@ use Rattle.names.specs.Used.{usedIn, usedInAll, usedInFields}
 use Rattle.numbers.specs.Little.{number, numberAt}
 use Rattle.paper.specs.FirstBytes.{readingOf, kindReading, countSize}
 use Rattle.paper.specs.Framing.{Piece}
-use Rattle.paper.specs.Meaning.{Doc, null, Docs, noDocs, doc, Fields, noFields, field}
+use Rattle.paper.specs.Meaning.{Doc, Fields}
 use Rattle.paper.specs.Metadata.{Dictionary}
 use Rattle.paper.specs.Rebuilding.{orNull, addField, listMeaning}
-use Rattle.paper.specs.Rows.{Place, Places, noPlaces, place, leftoverMeaning, listPlaces}
+use Rattle.paper.specs.Rows.{Place, Places, noPlaces, place, listPlaces}
 use Rattle.paper.specs.Rules.{breaksE, elementsLawful}
 use Rattle.paper.specs.Values.{childrenAt, idsOf, startsOf, namesAt, meaningOf}
 use Rattle.paper.specs.Words.{numbers, same, among, allBelow, isThere, joined}

@@ -1,7 +1,7 @@
 -- The ids that a place of a lawful row uses are ids of the dictionary, and name exactly the names that its meaning uses: by its
 -- node and what is inside it. A field that is present has its name in the dictionary (rule f), so the table tells its id.
 use mathlib.Core.Bool.{Bool, true, false, cond, not, _&&_, _||_}
-use mathlib.Core.List.{List, [], _∷_, _++_, map}
+use mathlib.Core.List.{List, [], _∷_}
 use mathlib.Core.Option.{Option, none, some, Option·some-injective as some-injective}
 use mathlib.Core.Path.{_≡_, refl, sym, ap, _∙_}
 use Prim.Native.Nat.{ℕ, _+_, _-_}
@@ -9,22 +9,21 @@ use lib.Dec.{eqb}
 use lib.ListN.{length}
 use Rattle.fields.specs.Telling.{lookedAt, Told, FieldsTold}
 use Rattle.lookup.specs.Looking.{Tells}
-use Rattle.names.specs.Used.{usedIn, usedInAll, usedInFields}
+use Rattle.names.specs.Used.{usedIn, usedInFields}
 use Rattle.paper.specs.Framing.{Piece, piecesOf}
-use Rattle.paper.specs.Meaning.{Doc, array, object}
 use Rattle.paper.specs.Metadata.{Dictionary}
 use Rattle.paper.specs.Normal.{namesUsed}
-use Rattle.paper.specs.Rebuilding.{orNull, placeMeaningBy, cellDoc, innerDoc, listMeaning, placeMeaning, fieldsMeaning}
-use Rattle.paper.specs.Rows.{Place, empty, leftover, typed, both, Typed, cell, inner, Places, place, placeUnder, placeWithin, placeBy, noBody, cellBody, innerBody, listPlaces, fieldPlaces}
-use Rattle.paper.specs.Rules.{hasLeftover, hasTyped, breaksF, innerLawful, elementsLawful, placeLawful, fieldsLawful}
+use Rattle.paper.specs.Rebuilding.{orNull, placeMeaningBy, cellDoc, innerDoc, placeMeaning, fieldsMeaning}
+use Rattle.paper.specs.Rows.{Place, empty, leftover, typed, both, Typed, cell, inner, Places, place, placeUnder, placeWithin, placeBy, innerBody, listPlaces, fieldPlaces}
+use Rattle.paper.specs.Rules.{hasLeftover, hasTyped, breaksF, innerLawful, placeLawful, fieldsLawful}
 use Rattle.paper.specs.Schemas.{Schema, leftoverOnly, column, list, fields, SchemaFields, noColumns, named}
 use Rattle.paper.specs.Values.{namesAt}
 use Rattle.paper.specs.Words.{given, andThen, among, allBelow, isThere}
 use Rattle.places.specs.Verdicts.{verdictOf, typedUnder, typedLawful, placeVerdict}
-use Rattle.places.specs.declared.verdicts.Verdict.the-variants.{Lawful, Broken, Unparsed}
+use Rattle.places.specs.declared.verdicts.Verdict.the-variants.{Lawful, Broken}
 use Rattle.schemas.specs.Frames.{frameEnd}
 use Rattle.schemas.specs.Positions.{fieldNode}
-use Rattle.fields.proofs.TellingLaws.{element-told, fields-told, FirstTold, field-told}
+use Rattle.fields.proofs.TellingLaws.{element-told, fields-told, field-told}
 use Rattle.names.proofs.UsedLaws.{among-used}
 use Rattle.paper.proofs.WordLaws.{never, and-both, given-some, then-some, some-there}
 use Rattle.places.proofs.StepLaws.{present, place-present}
