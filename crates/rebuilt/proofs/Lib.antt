@@ -3,3 +3,4 @@ pub mod MergeNamesLaws
 pub mod UsesLaws
 pub mod PlaceUsesLaws
 pub mod UsingLaws
+pub mod ChosenLaws
