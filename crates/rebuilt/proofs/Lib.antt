@@ -9,3 +9,8 @@ pub mod NamedLaws
 pub mod TypedLaws
 pub mod MemberLaws
 pub mod RebuiltLaws
+pub mod MergeNamesLaws
+pub mod UsesLaws
+pub mod PlaceUsesLaws
+pub mod UsingLaws
+pub mod ChosenLaws
