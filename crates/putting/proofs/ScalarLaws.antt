@@ -6,9 +6,11 @@ use Prim.Native.Nat.{ℕ, _+_, _-_, _*_, _%_, _≤_, _<_}
 use native.Mathlib.Omega.{arith}
 use borrow.Author.Tests.{eq-eqb, ne-eqb, le-leb, lt-leb}
 use lib.ListN.{length, length-append}
+use Rattle.cells.proofs.CodeLaws.{code-most}
 use Rattle.numbers.proofs.NumberLaws.{length-number-bytes}
 use Rattle.numbers.specs.Little.{putAt, numberBytes}
 use Rattle.paper.specs.Normal.{textBytes, prefixedBytes}
+use Rattle.paper.specs.Schemas.{columnCode}
 use Rattle.paper.specs.Words.{at}
 use Rattle.rebuilt.specs.Rebuilt.{cellValue}
 use Rattle.writing.proofs.EndLaws.{number-ends, ends-join, ends-length}
@@ -95,6 +97,9 @@ module _ (s : List ℕ) {before after : List ℕ} {floor end : ℕ} {r : Put} wh
   text-long many done = rw (lt-leb (length s) 63 many) done
 
 -- ---- a cell by its code
+
+pub first-small : (code wide : ℕ) → columnCode code ≡ true → wide ≡ code → 4 * wide < 256
+first-small code wide known is = let most = code-most code known in omega arith
 
 module _ (code : ℕ) (s : List ℕ) {before after : List ℕ} {floor end : ℕ} {r : Put} where
   pub cell-true : code ≡ 1 → at s 0 ≡ 1 → PutAs (4 ∷ []) before after floor end r → PutAs (cellValue code s) before after floor end r

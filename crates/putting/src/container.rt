@@ -8,7 +8,6 @@ ghost use Rattle.heads.specs.Packing.{Readings};
 ghost use Rattle.paper.specs.Bounds.{mostWalked};
 ghost use Rattle.paper.specs.FirstBytes.{countSize};
 ghost use Rattle.paper.specs.Normal.{largeBit};
-ghost use Rattle.paper.specs.Values.{headSize};
 ghost use Rattle.paper.specs.Words.{numbers, allBelow};
 ghost use Rattle.writing.specs.Ends.{Lies, Lying};
 ghost use Rattle.writing.specs.Heads.{arrayHead, objectHead};
@@ -16,17 +15,14 @@ ghost use Rattle.writing.specs.Rewritten.{ranksAt};
 ghost use Rattle.putting.specs.Put.{Room, PutAs};
 use crate::Put;
 
-// How many bytes the head of a container takes: above 255 members its count takes four.
-fn head_size(count: usize, id: usize, width: usize) -> usize
-    requires { ⌜ (count ≤ mostWalked) × (id ≤ 4) × (width ≤ 4) ⌝ }
-    ensures { λ r. ⌜ r ≡ headSize count (countSize (largeBit count)) id width ⌝ }
+// How many bytes a count takes: above 255 members four.
+fn count_size(count: usize) -> usize
+    ensures { λ r. ⌜ (r ≡ countSize (largeBit count)) × (r ≤ 4) ⌝ }
 {
-    let ids = count * id;
-    let offsets = (count + 1) * width;
     if count <= 255 {
-        return 2 + ids + offsets;
+        return 1;
     }
-    5 + ids + offsets
+    4
 }
 
 // Puts the head of an array whose elements stand from one place up to another, so many.
@@ -42,7 +38,8 @@ pub fn array(
     ensures { λ r. ⌜ ((parts : List (List ℕ)) → Lies (now (out .entry)) start end parts → length parts ≡ count → PutAs (arrayHead parts) (now (out .entry)) (now (out .exit)) floor start r) ⌝ }
 {
     let width = numbers::width_of(end - start);
-    if start - floor < head_size(count, 0, width) {
+    let size = heads::head_size(count, count_size(count), 0, width);
+    if start - floor < size {
         return Put::Full;
     }
     Put::At(writing::array_head(readings, count, out, start, end))
@@ -66,7 +63,8 @@ pub fn object(
 {
     let width = numbers::width_of(end - start);
     let id_width = numbers::width_of(writing::largest_of(ranks, ids, 2, count).0);
-    if start - floor < head_size(count, id_width, width) {
+    let size = heads::head_size(count, count_size(count), id_width, width);
+    if start - floor < size {
         return Put::Full;
     }
     Put::At(writing::object_head(readings, ranks, ids, 2, count, out, start, end))

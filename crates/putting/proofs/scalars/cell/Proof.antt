@@ -1,8 +1,7 @@
 -- `cell`: by its code.
 use borrow.Author.Needs.{needs}
 use Rattle.cells.proofs.CellLaws.{yes-no-some}
-use Rattle.cells.proofs.CodeLaws.{code-most}
-use Rattle.putting.proofs.ScalarLaws.{cell-true, cell-false, cell-text, cell-binary, cell-plain}
+use Rattle.putting.proofs.ScalarLaws.{first-small, cell-true, cell-false, cell-text, cell-binary, cell-plain}
 use Rattle.putting.proofs.scalars.cell.Statement.{statement}
 use Rattle.putting.proofs.scalars.cell.Tie as tie
 
@@ -14,5 +13,5 @@ cell-spec =
     (λ c κs. search needs) (λ c. search needs) (λ c. search (needs, cell-false))
     (λ c κs. search needs) (λ c. search needs) (λ c. search (needs, cell-text))
     (λ c κs. search needs) (λ c. search needs) (λ c. search (needs, cell-binary))
-    (λ c κs. search needs) (λ c. search needs) (λ c κs. search (needs, code-most))
+    (λ c κs. search needs) (λ c. search needs) (λ c κs. search (needs, first-small))
     (λ c. search needs) (λ c. search (needs, cell-plain)))
