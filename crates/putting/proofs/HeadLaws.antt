@@ -38,7 +38,7 @@ array-head-length parts =
 
 pub object-head-length : (ids : List ℕ) (parts : List (List ℕ)) → length ids ≡ length parts
     → length (objectHead ids parts)
-        ≡ headSize (length parts) (countSize (largeBit (length parts))) (smallestWidth (largest ids)) (smallestWidth (length (joined parts)))
+    ≡ headSize (length parts) (countSize (largeBit (length parts))) (smallestWidth (largest ids)) (smallestWidth (length (joined parts)))
 object-head-length ids parts same =
     let whole = object-length ids parts same in
     let split = ap length (object-split ids parts) ∙ length-append (objectHead ids parts) (joined parts) in

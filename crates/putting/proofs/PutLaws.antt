@@ -1,17 +1,19 @@
 -- What was put in front of a place, taken apart; and a container's: its head in front of its parts makes it, and where one
 -- of its parts would reach below the floor, so would all of it.
 use mathlib.Core.List.{List, [], _∷_, _++_}
-use mathlib.Core.Path.{_≡_, refl, ap, _∙_}
+use mathlib.Core.Path.{_≡_, refl, sym, ap, _∙_}
 use Prim.Native.Nat.{ℕ, _+_, _≤_, _<_}
 use native.Mathlib.Omega.{arith}
-use lib.ListN.{length, length-append}
+use lib.ListN.{length, drop, length-append}
+use lib.Seq.{drop-at, drop-drop}
+use Rattle.forms.proofs.PartLaws.{AllFilled}
 use Rattle.paper.specs.Normal.{arrayBytes, objectBytes}
 use Rattle.paper.specs.Words.{joined}
-use Rattle.writing.proofs.EndLaws.{ends-join, ends-length}
+use Rattle.writing.proofs.EndLaws.{ends-behind, ends-join, ends-length}
 use Rattle.writing.proofs.HeadLaws.{array-split, object-split}
-use Rattle.writing.specs.Ends.{EndsAt}
+use Rattle.writing.specs.Ends.{EndsAt, Lies}
 use Rattle.writing.specs.Heads.{arrayHead, objectHead}
-use Rattle.putting.specs.Put.{PutAs, put, full}
+use Rattle.putting.specs.Put.{Room, PutAs, put, full}
 use Rattle.putting.specs.declared.Put.the-variants.{At, Full}
 use Rattle.putting.specs.declared.Put.{Put}
 
@@ -25,6 +27,15 @@ module _ {bytes before after : List ℕ} {floor end : ℕ} where
   pub put-length : {start : ℕ} → end ≤ length before → PutAs bytes before after floor end (At start) → length after ≡ length before
   put-length within (put start above ends) = ends-length ends within
 
+  -- There is still room in front of what was put.
+  pub put-room : {start : ℕ} → Room before floor end → PutAs bytes before after floor end (At start) → Room after floor start
+  put-room room (put start above ends) =
+      let size = ends .size in
+      let within = room .within in
+      let small = room .small in
+      let same = ends-length ends within in
+      record { above = above; within = omega arith; small = omega arith }
+
   -- Bytes that were put in front of others are put with them.
   pub put-join : {more last : List ℕ} {start : ℕ} {r : Put} → end ≤ length before → EndsAt bytes before after end start
       → PutAs more after last floor start r → PutAs (more ++ bytes) before last floor end r
@@ -33,6 +44,35 @@ module _ {bytes before after : List ℕ} {floor end : ℕ} where
       let size = ends .size in
       let long = length-append more bytes in
       full (omega arith)
+
+-- The same of an answer that a test told.
+module _ {bytes before after : List ℕ} {floor end : ℕ} {r : Put} (done : PutAs bytes before after floor end r) where
+  pub told-here : {start : ℕ} → r ≡ At start → (floor ≤ start) × EndsAt bytes before after end start
+  told-here e = put-here (rw e at done)
+
+  pub told-full : r ≡ Full → end < floor + length bytes
+  told-full e = put-full (rw e at done)
+
+  pub told-length : {start : ℕ} → end ≤ length before → r ≡ At start → length after ≡ length before
+  told-length within e = put-length within (rw e at done)
+
+  pub told-room : {start : ℕ} → Room before floor end → r ≡ At start → Room after floor start
+  told-room room e = put-room room (rw e at done)
+
+-- ---- a container: its head in front of its parts
+
+-- Parts that were put lie there.
+pub ends-lie : (parts : List (List ℕ)) {before middle : List ℕ} {start end : ℕ} → AllFilled parts → end ≤ length before
+    → EndsAt (joined parts) before middle end start → Lies middle start end parts
+ends-lie parts {before} {middle} {start} {end} filled within ends =
+    let size = ends .size in
+    let same = ends-length ends within in
+    let front = ends-behind ends within in
+    let long : ℕ = length (joined parts) in
+    let behind : drop end middle ≡ drop end before =
+    ap (λ (n : ℕ). drop n middle) (sym size) ∙ sym (drop-drop long start middle)
+    ∙ ap (drop long) front ∙ drop-at (joined parts) (drop end before) long refl in
+    record { filled = filled; size = size; are = rw behind front; within = omega arith }
 
 module _ (parts : List (List ℕ)) {before middle after : List ℕ} {floor start end : ℕ} {r : Put} (within : end ≤ length before)
     (ends : EndsAt (joined parts) before middle end start) where

@@ -6,6 +6,7 @@ ghost use lib.ListN.{length};
 ghost use Rattle.heads.specs.Packing.{Readings};
 ghost use Rattle.writing.specs.Rewritten.{rewritten};
 ghost use Rattle.putting.specs.Put.{Room, PutAs, Leftover};
+
 mod container;
 mod scalars;
 
