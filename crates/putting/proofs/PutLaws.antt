@@ -6,6 +6,7 @@ use Prim.Native.Nat.{ℕ, _+_, _≤_, _<_}
 use native.Mathlib.Omega.{arith}
 use lib.ListN.{length, drop, length-append}
 use lib.Seq.{drop-at, drop-drop}
+use Rattle.forms.proofs.ContainerLaws.{array-fit}
 use Rattle.forms.proofs.PartLaws.{AllFilled}
 use Rattle.paper.specs.Normal.{arrayBytes, objectBytes}
 use Rattle.paper.specs.Words.{joined}
@@ -84,11 +85,6 @@ module _ (parts : List (List ℕ)) {before middle after : List ℕ} {floor start
 
 -- ---- a part that would reach below the floor
 
-pub array-holds : (parts : List (List ℕ)) → length (joined parts) ≤ length (arrayBytes parts)
-array-holds parts =
-    let size = ap length (array-split parts) ∙ length-append (arrayHead parts) (joined parts) in
-    omega arith
-
 pub object-holds : (ids : List ℕ) (parts : List (List ℕ)) → length (joined parts) ≤ length (objectBytes ids parts)
 object-holds ids parts =
     let size = ap length (object-split ids parts) ∙ length-append (objectHead ids parts) (joined parts) in
@@ -114,7 +110,7 @@ module _ (earlier : List (List ℕ)) (part : List ℕ) (later : List (List ℕ))
   pub full-behind-array : end < floor + length (arrayBytes (earlier ++ part ∷ later))
   full-behind-array =
       let few = parts-short in
-      let hold = array-holds (earlier ++ part ∷ later) in
+      let hold = array-fit (earlier ++ part ∷ later) in
       omega arith
 
   pub full-behind-object : (ids : List ℕ) → end < floor + length (objectBytes ids (earlier ++ part ∷ later))
