@@ -43,7 +43,7 @@ pub record ObjectRead (s : List ℕ) : Type 0 where
   pub offset-size : ℕ
   pub is : readingOf (at s 0) ≡ ObjectHead count-size id-size offset-size
 
-object-read : (levels : ℕ) (names : Dictionary) (s : List ℕ) (fs : Fields) → meaningBy (meaningOf levels names) names (readingOf (at s 0)) s ≡ some (object fs)
+pub object-read : (levels : ℕ) (names : Dictionary) (s : List ℕ) (fs : Fields) → meaningBy (meaningOf levels names) names (readingOf (at s 0)) s ≡ some (object fs)
     → at s 0 % 4 ≡ 2 → ObjectRead s
 unfolding readingOf kindReading meaningBy isThere
 object-read levels names s fs e two =

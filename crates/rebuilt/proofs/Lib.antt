@@ -1,4 +1,7 @@
 -- What is rebuilt is the normal form of what the row means: laws.
+pub mod ThereLaws
+pub mod InnerLaws
+pub mod PartwiseLaws
 pub mod CellLaws
 pub mod NumberedLaws
 pub mod MergeLaws
