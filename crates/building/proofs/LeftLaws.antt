@@ -79,8 +79,7 @@ module _ (levels : ℕ) (names normal : Dictionary) (ranks schema table area bod
       let goods = and-both (isThere (meaningOf levels names (childBytes area child))) (allGood (meaningOf levels names) area (rest .0)) (rw is at good) in
       let all : Numbered names normal ranks (idsIn levels (childBytes area child) ++ idsOfAll (idsIn levels) area (rest .0)) = rw is at numbered in
       let belows = and-both (ltb id (length ranks)) (allBelow (length ranks) own-ids) below in
-      oneReady refl
-      (
+      oneReady refl (
         left-member id start (first .0) (first .1) (goods .0) (numbered-front (idsIn levels (childBytes area child)) (idsOfAll (idsIn levels) area (rest .0)) all),
         ltb-true id (length ranks) (belows .0),
       )
@@ -93,7 +92,6 @@ one-less : (levels : ℕ) → suc levels - 1 ≡ levels
 one-less levels = omega arith
 
 module _ {levels : ℕ} {names normal : Dictionary} {ranks left : List ℕ} (beside : LeftObject (suc levels) names normal ranks left) where
-
   told : OneLevel (suc levels) names ranks left
   told = one-level (suc levels) names ranks left (some-there (meaningOf (suc levels) names left) (beside .means))
 

@@ -183,8 +183,7 @@ module _ (levels : ℕ) (names normal : Dictionary) (ranks schema table area bod
         → InStep Is (addNote (b ∷ bs) looked place field notes) (addMember (b ∷ bs) looked HereBytes ms)
     unfolding addNote addMember addId
     present b bs (At id) known numbered h later =
-        oneReady refl
-        (
+        oneReady refl (
           ready-here (id .0) (numbered-front HereIds LaterIds (numbered-more (id .0) (HereIds ++ LaterIds) numbered)) h,
           below-held (length ranks) (id .0 ∷ (HereIds ++ LaterIds)) (numbered .below) (id .0) (held-first (id .0) (HereIds ++ LaterIds)),
         )
