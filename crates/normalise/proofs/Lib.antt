@@ -1,5 +1,4 @@
 -- Laws of what is chosen, written and answered.
-pub mod ChosenLaws
 pub mod AnswerLaws
 pub mod NumberedLaws
 pub mod StandingLaws

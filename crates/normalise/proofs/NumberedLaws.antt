@@ -29,13 +29,13 @@ use Rattle.writing.specs.Written.{Right, Ready, Wrote}
 use Rattle.dictionary.proofs.DictionaryLaws.{opened-names}
 use Rattle.forms.proofs.GrowthLaws.{value-grows}
 use Rattle.forms.proofs.NamesLaws.{normal-names-there}
-use Rattle.marking.proofs.UsedIdLaws.{ids-below}
+use Rattle.marking.proofs.UsedIdLaws.{ids-below, ids-used}
 use Rattle.names.proofs.ContainedLaws.{contained-length}
 use Rattle.names.proofs.FewLaws.{count-is, names-few}
 use Rattle.names.proofs.NeverLongerLaws.{read-length}
 use Rattle.names.proofs.SameLaws.{among-at}
-use Rattle.normalise.proofs.ChosenLaws.{chosen-used, ranks-right}
 use Rattle.paper.proofs.WordLaws.{there-some}
+use Rattle.ranking.proofs.ChosenLaws.{chosen-used, ranks-right}
 use Rattle.ranking.proofs.HeldLaws.{named, below-held}
 use Rattle.containers.proofs.WalkLaws.{below-more}
 
@@ -141,8 +141,11 @@ module _ {m : List ℕ} {names : Names} {v : List ℕ} (lent : Lent m names v) w
       let few = count-few in
       let picked-few = ranked .few in
       let marked : used ≡ markIds (replicate (length before) 0) (idsIn mostLevels v) = marks ∙ ap (λ (l : List ℕ). markIds l (idsIn mostLevels v)) clean in
+      let ids : List ℕ = idsIn mostLevels v in
+      let below : allBelow (length (namesIn m)) ids ≡ true = ids-below mostLevels (namesIn m) v d means in
+      let exact = ids-used mostLevels (namesIn m) v d means in
       let names-used : chosenNames m chosen picked ≡ namesUsed d =
-      chosen-used mostLevels (namesIn m) v d means (length before) (omega arith) used marked ranks chosen picked ranked in
+      chosen-used (namesIn m) ids below d exact (length before) (omega arith) used marked ranks chosen picked ranked in
       record {
         choice = record {
           opened = lent .opened;
@@ -155,8 +158,8 @@ module _ {m : List ℕ} {names : Names} {v : List ℕ} (lent : Lent m names v) w
         d = d;
         means = means;
         used = names-used;
-        ranked = below-more (length (namesIn m)) (length ranks) (idsIn mostLevels v) (omega arith) (ids-below mostLevels (namesIn m) v d means);
-        right = ranks-right mostLevels (namesIn m) v d means (length before) (omega arith) used marked ranks chosen picked ranked;
+        ranked = below-more (length (namesIn m)) (length ranks) ids (omega arith) below;
+        right = ranks-right (namesIn m) ids below d exact (length before) (omega arith) used marked ranks chosen picked ranked;
         bytes = bytes;
         value-short = lent .value-short;
       }

@@ -13,3 +13,4 @@ pub mod HalfLaws
 pub mod SortedHalfLaws
 pub mod RankLaws
 pub mod MarkedLaws
+pub mod ChosenLaws

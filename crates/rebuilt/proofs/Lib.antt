@@ -1,1 +1,19 @@
 -- What is rebuilt is the normal form of what the row means: laws.
+pub mod ThereLaws
+pub mod InnerLaws
+pub mod PartwiseLaws
+pub mod CellLaws
+pub mod NumberedLaws
+pub mod MergeLaws
+pub mod LeftLaws
+pub mod HeldLaws
+pub mod PartsLaws
+pub mod NamedLaws
+pub mod TypedLaws
+pub mod MemberLaws
+pub mod RebuiltLaws
+pub mod MergeNamesLaws
+pub mod UsesLaws
+pub mod PlaceUsesLaws
+pub mod UsingLaws
+pub mod ChosenLaws

@@ -33,7 +33,7 @@ use Rattle.writing.proofs.AsItStandsLaws.{fixed-stands, prefixed-stands
 
 -- ---- ids of a part, and of the whole
 
-or-first : (a b : Bool) → a ≡ true → a || b ≡ true
+pub or-first : (a b : Bool) → a ≡ true → a || b ≡ true
 or-first true b e = refl
 or-first false b e = never (sym e)
 
@@ -105,7 +105,7 @@ module _ (names normal : Dictionary) (ranks : List ℕ) (decode : List ℕ → O
       (right-behind names normal ranks (idsWithin (childBytes area child)) _ right-all) in
       rw (here, behind) (ap (elementBytes normal) all)
 
-  members-written : (starts : List ℕ) (kids : List Child) (ns : List (List ℕ)) (fs : Fields) → length ns ≡ length starts
+  pub members-written : (starts : List ℕ) (kids : List Child) (ns : List (List ℕ)) (fs : Fields) → length ns ≡ length starts
       → childrenAt area starts ≡ some kids → memberDocs decode area ns kids ≡ some fs → Right names normal ranks (idsOfAll idsWithin area kids)
       → (map (partAt write area) starts ≡ memberBytes normal fs) × (fieldNames fs ≡ ns)
   unfolding childrenAt memberDocs memberBytes fieldNames idsOfAll
@@ -129,7 +129,7 @@ module _ (names normal : Dictionary) (ranks : List ℕ) (decode : List ℕ → O
       (right-behind names normal ranks (idsWithin (childBytes area child)) _ right-all) in
       (rw (here, behind .0) (ap (memberBytes normal) all), ap fieldNames (sym all) ∙ ap (λ (l : List (List ℕ)). name ∷ l) (behind .1))
 
-names-length : (names : Dictionary) (ids : List ℕ) → length (namesAt names ids) ≡ length ids
+pub names-length : (names : Dictionary) (ids : List ℕ) → length (namesAt names ids) ≡ length ids
 unfolding namesAt
 names-length names ids = length-map ids (λ (id : ℕ). getD names id [])
 

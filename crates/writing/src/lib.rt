@@ -6,4 +6,9 @@ mod offsets;
 mod scalars;
 mod writer;
 
+pub use container::array_head;
+pub use container::object_head;
+pub use ids::largest_of;
+pub use scalars::copied;
 pub use writer::value;
+pub use writer::written;

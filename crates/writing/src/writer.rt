@@ -54,7 +54,7 @@ fn children(
 }
 
 // Writes what a lawful value is rewritten to, so that it ends at a place. Answers where it starts.
-fn written(
+pub fn written(
     levels: usize,
     readings: &[u8],
     ranks: &[u16],

@@ -1,0 +1,2 @@
+-- What the writers of a row stand on.
+pub mod Building
