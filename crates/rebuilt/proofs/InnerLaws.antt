@@ -28,7 +28,7 @@ use Rattle.places.specs.Frames.{placeEnd, placeFrame}
 use Rattle.places.specs.Verdicts.{verdictOf, placeVerdict, elementsVerdict, membersVerdict, worse, brokenIf}
 use Rattle.places.specs.declared.verdicts.Verdict.the-variants.{Lawful, Broken, Unparsed}
 use Rattle.places.specs.declared.verdicts.Verdict.{Verdict}
-use Rattle.schemas.proofs.FieldsStandLaws.{FirstField, first-field, no-field, field-framed, field-named}
+use Rattle.schemas.proofs.FieldsStandLaws.{FirstField, first-field, no-field, one-list, field-framed, field-named}
 use Rattle.schemas.specs.Frames.{frameEnd}
 use Rattle.schemas.specs.Positions.{fieldNode}
 use Rattle.rebuilt.proofs.ThereLaws.{unparsed-not, broken-not, not-broken}
@@ -189,6 +189,9 @@ module _ {levels : ℕ} {names : Dictionary} {schema table : List ℕ} {field to
               told = rw is (member-told .behind);
               lawful = member-both .1;
             }
+
+        pub members-behind-are : (next : ℕ) (is : next ≡ frameEnd schema field) → members-behind next is .columns ≡ member-first .more
+        members-behind-are next is = one-list (members-behind next is .stand) (rw is (member-first .stands .behind))
 
         pub member-pieces : piecesIn (drop place body) ≡ pieceIn body place end ∷ piecesIn (drop end body)
         unfolding membersVerdict
