@@ -68,7 +68,7 @@ module _ {levels : ℕ} {schema table : List ℕ} {node : ℕ} {body used₀ : L
         ∙ ap (λ (pieces : List Piece). markIds used (elementIds element levels schema table node pieces)) (pieces-none body at over))
 
     module _ (h : at < length body) {r : Frame} (told : r ≡ placeFrame body at) where
-      pub list-whole : {A : Type 0} → r ≡ Cut → A
+      pub list-whole : r ≡ Cut → (element : Schema) → Stands levels schema node element → used ≡ markIds used₀ (elementIds element levels schema table node (piecesIn body))
       list-whole e = absurd (element-whole body at (seen .there) h told e)
 
       module _ {end : ℕ} (e : r ≡ Ends end) where
@@ -155,7 +155,8 @@ module _ {levels : ℕ} {schema table : List ℕ} {from to : ℕ} {body used₀ 
       field-frame-in = member-frame-in body at (seen .there) left
 
       module _ {r : Frame} (told : r ≡ placeFrame body at) where
-        pub field-whole : {A : Type 0} → r ≡ Cut → A
+        pub field-whole : r ≡ Cut → (columns : SchemaFields) → FieldsStand levels schema from to columns
+            → used ≡ markIds used₀ (memberIds columns levels schema table from (piecesIn body))
         field-whole e = absurd (member-whole body at (seen .there) left told e)
 
         module _ {end : ℕ} (e : r ≡ Ends end) where
