@@ -1,6 +1,6 @@
 -- A place by its parts and what is typed in it by its node's kind: what the calls ask, and that their marks are all of them.
 use mathlib.Core.List.{List, [], _++_}
-use mathlib.Core.Path.{_≡_, refl, sym, ap, _∙_}
+use mathlib.Core.Path.{_≡_, sym, ap, _∙_}
 use Prim.Native.Nat.{ℕ, _+_, _-_, _≤_}
 use native.Mathlib.Omega.{arith}
 use lib.ListN.{length, length-take, length-drop}
@@ -8,16 +8,15 @@ use Rattle.marking.proofs.MarkLaws.{marked-length, mark-append}
 use Rattle.marking.specs.Ids.{idsIn, markIds}
 use Rattle.marking.specs.Marking.{Markable}
 use Rattle.paper.proofs.WordLaws.{some-there}
-use Rattle.paper.specs.Metadata.{Dictionary}
-use Rattle.paper.specs.Schemas.{Schema, list, fields, SchemaFields}
+use Rattle.paper.specs.Schemas.{Schema, SchemaFields}
 use Rattle.paper.specs.Values.{meaningOf}
 use Rattle.paper.specs.Words.{part}
+use Rattle.places.proofs.PlaceLaws.{both-long}
 use Rattle.places.specs.Parts.{partsOf}
 use Rattle.places.specs.declared.parts.Parts.the-variants.{Empty, Leftover, Typed, Both, Unframed}
 use Rattle.places.specs.declared.parts.Parts.{Parts}
 use Rattle.rebuilt.proofs.PartwiseLaws.{ids-are-typed, no-left-ids}
 use Rattle.rebuilt.proofs.ThereLaws.{place-leftover, place-only, place-beside, place-behind, typed-elements, typed-members}
-use Rattle.rebuilt.specs.Members.{noLeft}
 use Rattle.rebuilt.specs.Rebuilt.{rebuiltBy, piecesIn}
 use Rattle.rebuilt.specs.Using.{placeIds, memberIds, elementIds, typedIds}
 use Rattle.schemas.proofs.KindLaws.{leftover-here, column-here, list-here, object-here}
@@ -30,7 +29,18 @@ use Rattle.gathering.specs.Gathering.{PlaceReady, TypedReady, ElementsRe
 
 -- ---- a place
 
-part-small : (body : List ℕ) (from to most : ℕ) → length body ≤ most → length (part body from to) ≤ most
+-- Where both parts stand.
+module _ (body : List ℕ) {p : Parts} (is : p ≡ partsOf body) {middle : ℕ} (e : p ≡ Both middle) where
+  pub left-begins : 3 ≤ middle
+  left-begins = both-long body is e .0
+
+  pub left-ends : middle ≤ length body
+  left-ends = let long = both-long body is e .1 in omega arith
+
+  pub behind-begins : middle + 3 ≤ length body
+  behind-begins = both-long body is e .1
+
+pub part-small : (body : List ℕ) (from to most : ℕ) → length body ≤ most → length (part body from to) ≤ most
 part-small body from to most h = simp (length-take, length-drop) (omega arith)
 
 module _ {levels : ℕ} {schema table : List ℕ} {node : ℕ} {body : List ℕ} {size : ℕ} (ready : PlaceReady levels schema table node body size)

@@ -1,6 +1,6 @@
 -- The two loops over inner places: what is left of them is to be marked on what is marked.
-use mathlib.Core.Bool.{Bool, true, false}
-use mathlib.Core.List.{List, [], _∷_, _++_, map}
+use mathlib.Core.Bool.{true}
+use mathlib.Core.List.{List, [], _∷_, _++_}
 use mathlib.Core.Path.{_≡_, refl, sym, ap, _∙_}
 use Prim.Native.Nat.{ℕ, _+_, _-_, _≤_, _<_}
 use native.Mathlib.Omega.{arith}
@@ -8,31 +8,28 @@ use borrow.Author.Tests.{lt-ltb}
 use lib.ListN.{length, drop, length-take, length-drop}
 use Rattle.dictionary.specs.declared.ids.InputId.{InputId}
 use Rattle.fields.specs.Telling.{entryPlace, lookedAt}
-use Rattle.frames.specs.Frames.{pieceIn}
 use Rattle.frames.specs.declared.Frame.the-variants.{Ends, Cut}
 use Rattle.frames.specs.declared.Frame.{Frame}
-use Rattle.lookup.specs.declared.Looked.the-variants.{At, Nowhere}
+use Rattle.lookup.specs.declared.Looked.the-variants.{At}
 use Rattle.lookup.specs.declared.Looked.{Looked}
 use Rattle.marking.proofs.MarkLaws.{marked-length, mark-append}
 use Rattle.marking.specs.Ids.{markIds}
 use Rattle.paper.specs.Bounds.{mostWalked}
 use Rattle.paper.specs.Framing.{Piece}
 use Rattle.paper.specs.Metadata.{Dictionary}
-use Rattle.paper.specs.Schemas.{Schema, SchemaFields, noColumns, named}
+use Rattle.paper.specs.Schemas.{Schema, SchemaFields, named}
 use Rattle.paper.specs.Words.{part, allBelow, joined}
 use Rattle.places.specs.Frames.{placeFrame}
-use Rattle.rebuilt.proofs.InnerLaws.{NamedBy, pieces-none, element-whole, element-fits, element-place, elements-behind, element-pieces, members-none, members-over, member-first, member-has, member-node-in, member-frame-in, member-entry, member-whole, member-fits, member-place, members-behind, members-behind-are, member-pieces, member-named}
+use Rattle.rebuilt.proofs.InnerLaws.{pieces-none, element-whole, element-fits, element-place, elements-behind, element-pieces, members-none, member-first, member-has, member-node-in, member-frame-in, member-entry, member-whole, member-fits, member-place, members-behind, members-behind-are, member-pieces, member-named}
 use Rattle.rebuilt.specs.Rebuilt.{piecesIn}
-use Rattle.rebuilt.specs.There.{PlaceThere, ElementsThere, MembersThere}
+use Rattle.rebuilt.specs.There.{ElementsThere, MembersThere}
 use Rattle.rebuilt.specs.Using.{addId, placeIds, memberIds, elementIds}
 use Rattle.schemas.proofs.FieldsStandLaws.{FirstField, one-list}
 use Rattle.schemas.specs.Frames.{frameEnd}
 use Rattle.schemas.specs.Positions.{Stands, FieldsStand, fieldNode}
+use Rattle.gathering.proofs.PlaceLaws.{part-small}
 use Rattle.gathering.proofs.PresentLaws.{add-first}
 use Rattle.gathering.specs.Gathering.{PlaceReady, ElementsReady, MembersReady}
-
-part-small : (body : List ℕ) (from to most : ℕ) → length body ≤ most → length (part body from to) ≤ most
-part-small body from to most h = simp (length-take, length-drop) (omega arith)
 
 -- ---- a list's places
 
@@ -72,8 +69,11 @@ module _ {levels : ℕ} {schema table : List ℕ} {node : ℕ} {body used₀ : L
       list-whole e = absurd (element-whole body at (seen .there) h told e)
 
       module _ {end : ℕ} (e : r ≡ Ends end) where
-        pub list-fits : (at + 3 < end) × (end ≤ length body)
-        list-fits = element-fits body at (seen .there) h told e
+        pub list-inner : at + 3 ≤ end
+        list-inner = let fits = element-fits body at (seen .there) h told e .0 in omega arith
+
+        pub list-end : end ≤ length body
+        list-end = element-fits body at (seen .there) h told e .1
 
         pub list-asks : PlaceReady levels schema table node (part body (at + 3) end) (length used)
         list-asks =
@@ -93,7 +93,7 @@ module _ {levels : ℕ} {schema table : List ℕ} {node : ℕ} {body used₀ : L
             let own = marked (seen .there .element) (seen .there .stands) in
             let same : length after ≡ length used = ap length own ∙ marked-length used (ids (seen .there .element)) in
             record {
-              within = list-fits .1;
+              within = list-end;
               small = seen .small;
               names = seen .names;
               room = omega (arith, seen .room);
@@ -160,16 +160,21 @@ module _ {levels : ℕ} {schema table : List ℕ} {from to : ℕ} {body used₀ 
         field-whole e = absurd (member-whole body at (seen .there) left told e)
 
         module _ {end : ℕ} (e : r ≡ Ends end) where
-          pub field-fits : (at + 3 ≤ end) × (end ≤ length body)
-          field-fits = member-fits body at (seen .there) left told e
+          pub field-inner : at + 3 ≤ end
+          field-inner = member-fits body at (seen .there) left told e .0
+
+          pub field-end : end ≤ length body
+          field-end = member-fits body at (seen .there) left told e .1
 
           -- what `mark_field` asks
           pub field-asks : (entryPlace field < length table) × (allBelow (length used) (addId (part body (at + 3) end) (lookedAt table field) []) ≡ true)
           field-asks =
-              let long : length (part body (at + 3) end) ≤ end - (at + 3) = simp (length-take, length-drop) (omega arith) in
-              (member-entry body at (seen .there) left, own-below (part body (at + 3) end) (lookedAt table field) (length used) λ some-bytes.
-              let known = member-named body at (seen .there) left told e (omega arith) in
-              (known .id, known .looked-is, omega (arith, known .below, seen .room)))
+              let long : length (part body (at + 3) end) ≤ end - (at + 3) = simp (length-take, length-drop) (omega arith) in (
+                member-entry body at (seen .there) left,
+                own-below (part body (at + 3) end) (lookedAt table field) (length used) λ some-bytes.
+                    let known = member-named body at (seen .there) left told e (omega arith) in
+                    (known .id, known .looked-is, omega (arith, known .below, seen .room)),
+              )
 
           -- what `place` asks, when the field's id is marked
           pub field-inside : (node : ℕ) → node ≡ fieldNode schema field → (between ids : List ℕ) → between ≡ markIds used ids

@@ -1,7 +1,7 @@
 -- `place`, `typed`, `list_places` and `object_places`: a place is marked by its parts, what is typed in it by the kind of its
 -- node, and inner places one after another. A call takes a level, or keeps it and goes from a walker to `place` to `typed`.
 use Prim.Native.Nat.{ℕ, _+_, _-_, _*_}
-use mathlib.Core.Path.{refl, sym, _∙_}
+use mathlib.Core.Path.{refl}
 use native.Mathlib.Omega.{arith}
 use borrow.Author.Needs.{needs}
 use borrow.Fn.PlainCycle.{Measures}
@@ -9,8 +9,8 @@ use lib.ListN.{length}
 use Rattle.numbers.proofs.Cycle.{given-at, asked-below}
 use Rattle.places.proofs.PlaceLaws.{one-long, typed-long, both-long}
 use Rattle.rebuilt.proofs.ThereLaws.{typed-kind, typed-level, typed-frame}
-use Rattle.gathering.proofs.PlaceLaws.{leftover-asks, typed-asks, beside-asks, behind-asks, empty-marked, unframed-marked, leftover-marked, only-marked, both-marked, elements-asks, members-asks, none-marked, cell-marked, elements-marked, members-marked}
-use Rattle.gathering.proofs.WalkLaws.{ListSeen, list-start, list-done, list-whole, list-fits, list-asks, list-next, FieldsSeen, fields-start, fields-done, field-has, field-node-in, field-frame-in, field-whole, field-fits, field-asks, field-inside, fields-next}
+use Rattle.gathering.proofs.PlaceLaws.{left-begins, left-ends, behind-begins, leftover-asks, typed-asks, beside-asks, behind-asks, empty-marked, unframed-marked, leftover-marked, only-marked, both-marked, elements-asks, members-asks, none-marked, cell-marked, elements-marked, members-marked}
+use Rattle.gathering.proofs.WalkLaws.{ListSeen, list-start, list-done, list-whole, list-inner, list-end, list-asks, list-next, FieldsSeen, fields-start, fields-done, field-has, field-node-in, field-frame-in, field-whole, field-inner, field-end, field-asks, field-inside, fields-next}
 use Rattle.gathering.proofs.walker.list_places.Reads as list-places
 use Rattle.gathering.proofs.walker.list_places.Kinds as list-places-kinds
 use Rattle.gathering.proofs.walker.+list_places+object_places+place+typed.Lts-list_places as list-places-lts
@@ -64,130 +64,86 @@ pub +list-places+object-places+place+typed-spec : {M : Type 1} → statement M
     (place-frame-reads.Asked, place-frame-reads.Learnt, asked-below μ-place place.Pre t, place.Post)
     (given-at μ-list-places list-places.Pre t) list-places.Post
     list-places-Inv-loop list-places-μ-loop
-    -- loop-holds, place-frame-requires, enum-known-end, enum-told, same-length
     (λ c. search (needs, list-start))
-    (λ c κs. search needs) (λ c. search needs) (λ c. search needs) (λ c. search needs)
-    -- returns: cut
-    (λ c. search (needs, list-whole))
-    -- add-inner, sub-place, part-start, part-end
-    (λ c. search (needs, list-fits))
-    (λ c. let frame = c .before .before .before in let has = frame .before .loop-test .taken in
-    let fits = list-fits (frame .before .before .loop .inv) has (frame .place-frame .ensures) (c .before .end .given .1) in search needs)
-    (λ c. let frame = c .before .before .before in let has = frame .before .loop-test .taken in
-    let fits = list-fits (frame .before .before .loop .inv) has (frame .place-frame .ensures) (c .before .end .given .1) in search needs)
-    (λ c. let frame = c .before .before .before in let has = frame .before .loop-test .taken in
-    let fits = list-fits (frame .before .before .loop .inv) has (frame .place-frame .ensures) (c .before .end .given .1) in search needs)
-    -- place-requires
+    (λ c κs. search needs) (λ c. search needs) (λ c. search needs) (λ c. search needs) (λ c. search (needs, list-whole))
+    (λ c. search needs) (λ c. search (needs, list-inner)) (λ c. search (needs, list-inner)) (λ c. search (needs, list-end))
+    -- the call of `place` on an element, at the same levels
     (λ c κs. search (needs, list-asks))
-    -- loop-less, loop-again, same-length-2, returns-2
-    (λ c. let known = c .before .before .before .before .before .before in let frame = known .before .before in let has = frame .before .loop-test .taken in
-    let fits = list-fits (frame .before .before .loop .inv) has (frame .place-frame .ensures) (known .end .given .1) in search needs)
+    (λ c. let known = c .before .before .before .before .before .before in let frame = known .before .before in
+    let has = frame .before .loop-test .taken in
+    let inner = list-inner (frame .before .before .loop .inv) has (frame .place-frame .ensures) (known .end .given .1) in search needs)
     (λ c. search (needs, list-next))
-    (λ c. search needs)
-    (λ c. search (needs, list-done)))
+    (λ c. search needs) (λ c. search (needs, list-done)))
     -- ---- `object_places`
     (λ t. object-places-lts.spec
     (place-frame-reads.Asked, place-frame-reads.Learnt, field-node-reads.Asked, field-node-reads.Learnt, mark-field-reads.Asked, mark-field-reads.Learnt, asked-below μ-place place.Pre t, place.Post, frame-end-reads.Asked, frame-end-reads.Learnt)
     (given-at μ-object-places object-places.Pre t) object-places.Post
     object-places-Inv-loop object-places-μ-loop
-    -- loop-holds
-    (λ c. search (needs, fields-start))
-    -- place-frame-requires, enum-known-end, enum-told, same-length
-    (λ c κs. search (needs, field-has)) (λ c. search needs) (λ c. search needs) (λ c. search needs)
-    -- returns: cut
-    (λ c. search (needs, field-whole))
-    -- add-inner, sub-held, part-start, part-end
-    (λ c. let frame = c .before .before .before in let left = frame .before .loop-test .taken in
-    let fits = field-fits (frame .before .before .loop .inv) left (frame .place-frame .ensures) (c .before .end .given .1) in search needs)
-    (λ c. let frame = c .before .before .before in let left = frame .before .loop-test .taken in
-    let fits = field-fits (frame .before .before .loop .inv) left (frame .place-frame .ensures) (c .before .end .given .1) in search needs)
-    (λ c. let frame = c .before .before .before in let left = frame .before .loop-test .taken in
-    let fits = field-fits (frame .before .before .loop .inv) left (frame .place-frame .ensures) (c .before .end .given .1) in search needs)
-    (λ c. let frame = c .before .before .before in let left = frame .before .loop-test .taken in
-    let fits = field-fits (frame .before .before .loop .inv) left (frame .place-frame .ensures) (c .before .end .given .1) in search needs)
-    -- field-node-requires, mark-field-requires
+    (λ c. search (needs, fields-start)) (λ c κs. search (needs, field-has))
+    (λ c. search needs) (λ c. search needs) (λ c. search needs) (λ c. search (needs, field-whole))
+    (λ c. let turn = c .before .before .before .before in let has = field-has (turn .before .loop .inv) (turn .loop-test .taken) in search needs)
+    (λ c. search (needs, field-inner)) (λ c. search (needs, field-inner)) (λ c. search (needs, field-end))
     (λ c κs. search (needs, field-node-in))
-    (λ c κs. let known = c .before .before .before .before in let frame = known .before .before in let left = frame .before .loop-test .taken in
+    -- what `mark_field` asks
+    (λ c κs. let known = c .before .before .before .before in let frame = known .before .before in
+    let left = frame .before .loop-test .taken in
     field-asks (frame .before .before .loop .inv) left (frame .place-frame .ensures) (known .end .given .1))
-    -- place-requires
-    (λ c κs. let known = c .before .before .before .before .before .before .before .before in let frame = known .before .before in let left = frame .before .loop-test .taken in
+    -- the call of `place` on a field, at the same levels, with the field's id marked
+    (λ c κs. let known = c .before .before .before .before .before .before .before .before in let frame = known .before .before in
+    let left = frame .before .loop-test .taken in
     let pre = c .before .before .before .before .before .before .before .before .before .before .before .before .before .before .before .before .before .before .pre in
     let asks = field-inside (frame .before .before .loop .inv) left (frame .place-frame .ensures) (known .end .given .1) _ (c .before .before .before .before .before .field-node .ensures) _ _ (c .before .before .before .mark-field .ensures) in
     (omega (arith, pre .0), (pre .1 .0, asks)))
-    -- frame-end-requires
-    (λ c κs. search (needs, field-frame-in))
-    -- loop-less, loop-again, same-length-2, returns-2
-    (λ c. search needs)
-    (λ c. let known = c .before .before .before .before .before .before .before .before .before .before .before .before in let frame = known .before .before in let left = frame .before .loop-test .taken in
+    (λ c κs. search (needs, field-frame-in)) (λ c. search needs)
+    -- one field more
+    (λ c. let known = c .before .before .before .before .before .before .before .before .before .before .before .before in let frame = known .before .before in
+    let left = frame .before .loop-test .taken in
     fields-next (frame .before .before .loop .inv) left (frame .place-frame .ensures) (known .end .given .1) _ (c .before .before .before .before .before .before .before .before .before .field-node .ensures) _ (c .before .before .before .before .before .before .before .mark-field .ensures) _ (c .before .before .before .place .ensures) _ (c .frame-end .ensures))
-    (λ c. search needs)
-    (λ c. search (needs, fields-done)))
+    (λ c. search needs) (λ c. search (needs, fields-done)))
     -- ---- `place`
     (λ t. place-lts.spec
     (split-reads.Asked, split-reads.Learnt, mark-reads.Asked, mark-reads.Learnt, asked-below μ-typed typed.Pre t, typed.Post)
     (given-at μ-place place.Pre t) place.Post
-    -- split-requires, enum-told, enum-told-2
     (λ c κs. search needs) (λ c. search needs) (λ c. search needs)
-    -- sub-mark, part-mark-start, part-mark-end
-    (λ c. search (needs, one-long)) (λ c. search (needs, one-long)) (λ c. search (needs, one-long))
-    -- mark-requires
-    (λ c κs. search (needs, leftover-asks))
-    (λ c. search needs)
-    (λ c. search (needs, typed-long)) (λ c. search (needs, typed-long)) (λ c. search (needs, typed-long))
-    -- typed-requires
-    (λ c κs. search (needs, typed-asks))
-    -- enum-known-parts, add-behind, sub-mark-2, start, end
-    (λ c. search needs)
+    (λ c. search (needs, one-long)) (λ c. search (needs, one-long)) (λ c. search needs)
+    -- what `mark` asks of a leftover alone
+    (λ c κs. search (needs, leftover-asks)) (λ c. search needs)
+    (λ c. search (needs, typed-long)) (λ c. search (needs, typed-long)) (λ c. search needs)
+    -- the call of `typed`, at the same levels
+    (λ c κs. search (needs, typed-asks)) (λ c. search needs)
     (λ c. let long = both-long _ (c .before .before .before .split .ensures) (c .before .parts .given .1) in search needs)
-    (λ c. let long = both-long _ (c .before .before .before .split .ensures) (c .before .parts .given .1) in search needs)
-    (λ c. let long = both-long _ (c .before .before .before .split .ensures) (c .before .parts .given .1) in search needs)
-    (λ c. let long = both-long _ (c .before .before .before .split .ensures) (c .before .parts .given .1) in search needs)
-    -- mark-requires-2
+    (λ c. search (needs, left-begins)) (λ c. search (needs, left-begins)) (λ c. search (needs, left-ends))
+    -- what `mark` asks of a leftover beside something typed
     (λ c κs. search (needs, beside-asks))
-    -- sub-typed-2, start, end
-    (λ c. let known = c .before .before .before .before .before .before in let long = both-long _ (known .before .before .split .ensures) (known .parts .given .1) in search needs)
-    (λ c. let known = c .before .before .before .before .before .before in let long = both-long _ (known .before .before .split .ensures) (known .parts .given .1) in search needs)
-    (λ c. let known = c .before .before .before .before .before .before in let long = both-long _ (known .before .before .split .ensures) (known .parts .given .1) in search needs)
-    -- typed-requires-2
-    (λ c κs. let known = c .before .before .before .before .before .before .before .before in let pre = c .before .before .before .before .before .before .before .before .before .before .before .before .before .before .before .before .pre in
+    (λ c. search (needs, behind-begins)) (λ c. search (needs, behind-begins)) (λ c. search needs)
+    -- the call of `typed` behind a leftover whose ids are marked, at the same levels
+    (λ c κs. let known = c .before .before .before .before .before .before .before .before in
+    let pre = c .before .before .before .before .before .before .before .before .before .before .before .before .before .before .before .before .pre in
     let asks = behind-asks (pre .1 .1) (known .before .before .split .ensures) (known .parts .given .1) _ _ _ refl (c .before .before .before .before .mark2 .ensures) in
     (omega (arith, pre .0), (pre .1 .0, asks)))
-    -- enum-told-4
     (λ c. search needs)
-    -- returns ..
-    (λ c. search (needs, empty-marked))
-    (λ c. search needs)
-    (λ c. search (needs, leftover-marked))
-    (λ c. search needs)
-    (λ c. search (needs, only-marked))
-    (λ c. search needs)
-    (λ c. search (needs, both-marked))
-    (λ c. search (needs, unframed-marked)))
+    -- empty; a leftover alone; typed alone; both; not framed
+    (λ c. search (needs, empty-marked)) (λ c. search needs) (λ c. search (needs, leftover-marked))
+    (λ c. search needs) (λ c. search (needs, only-marked))
+    (λ c. search needs) (λ c. search (needs, both-marked)) (λ c. search (needs, unframed-marked)))
     -- ---- `typed`
     λ t. typed-lts.spec
     (kind-at-reads.Asked, kind-at-reads.Learnt, asked-below μ-list-places list-places.Pre t, list-places.Post, frame-end-reads.Asked, frame-end-reads.Learnt, asked-below μ-object-places object-places.Pre t, object-places.Post)
     (given-at μ-typed typed.Pre t) typed.Post
-    -- kind-at-requires, enum-told*3
     (λ c κs. search (needs, typed-kind))
-    (λ c. search needs) (λ c. search needs) (λ c. search needs)
-    -- sub-list-places, add-list-places
-    (λ c. search (needs, typed-level))
+    (λ c. search needs) (λ c. search needs) (λ c. search needs) (λ c. search (needs, typed-level))
     (λ c. search needs)
-    -- list-places-requires
-    (λ c κs. let told = c .before in let pre = c .before .before .before .before .before .before .before .before .before .pre in let level = typed-level (pre .1 .1 .there) in
+    -- the call of `list_places`, a level down
+    (λ c κs. let told = c .before in let pre = c .before .before .before .before .before .before .before .before .before .pre in
+    let level = typed-level (pre .1 .1 .there) in
     (omega (arith, pre .0), (pre .1 .0, elements-asks (pre .1 .1) (told .before .before .kind-at .ensures) (told .enum-told3 .given .1))))
-    -- enum-told-4, frame-end-requires, sub, add
+    (λ c. search needs) (λ c κs. search (needs, typed-frame)) (λ c. search (needs, typed-level))
     (λ c. search needs)
-    (λ c κs. search (needs, typed-frame))
-    (λ c. search (needs, typed-level))
-    (λ c. search needs)
-    -- object-places-requires
-    (λ c κs. let told = c .before .before in let pre = c .before .before .before .before .before .before .before .before .before .before .pre in let level = typed-level (pre .1 .1 .there) in
+    -- the call of `object_places`, a level down
+    (λ c κs. let told = c .before .before in let pre = c .before .before .before .before .before .before .before .before .before .before .pre in
+    let level = typed-level (pre .1 .1 .there) in
     (omega (arith, pre .0), (pre .1 .0, members-asks (pre .1 .1) (told .before .before .kind-at .ensures) (told .enum-told4 .given .1) _ (c .before .frame-end .ensures))))
-    -- returns
-    (λ c. search (needs, none-marked))
-    (λ c. search (needs, cell-marked))
-    (λ c. search needs)
-    (λ c. search (needs, elements-marked))
-    (λ c. search needs)
-    (λ c. search (needs, members-marked))
+    -- node `00`; a column; a list; an object
+    (λ c. search (needs, none-marked)) (λ c. search (needs, cell-marked))
+    (λ c. search needs) (λ c. search (needs, elements-marked))
+    (λ c. search needs) (λ c. search (needs, members-marked))
