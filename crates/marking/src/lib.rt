@@ -24,7 +24,7 @@ pub fn is_used(used: &[u8], id: InputId) -> bool
 }
 
 // Marks an id.
-fn mark_id(used: &mut [u8], id: InputId)
+pub fn mark_id(used: &mut [u8], id: InputId)
     requires { ⌜ id .0 < length (now used) ⌝ }
     ensures { λ _. ⌜ now (used .exit) ≡ set (now (used .entry)) (id .0) 1 ⌝ }
 {

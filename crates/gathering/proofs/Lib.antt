@@ -1,0 +1,4 @@
+-- Laws of gathering.
+pub mod PresentLaws
+pub mod PlaceLaws
+pub mod WalkLaws

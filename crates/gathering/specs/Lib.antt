@@ -1,0 +1,2 @@
+-- What gathering the ids of a row asks.
+pub mod Gathering
