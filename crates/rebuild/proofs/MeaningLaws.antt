@@ -29,9 +29,31 @@ use Rattle.rebuild.specs.Rebuilding.{docUnder, rowDoc}
 -- A place that was read has a place's tag.
 place-tag : (node : Schema) (names : Dictionary) (piece : Piece) {p : Place} → placeUnder node mostLevels names piece ≡ some p → piece .tag ≡ 0x50
 unfolding placeWithin placeBy
-place-tag node names piece e = eqb-true (piece .tag) 0x50 (given-some (eqb (piece .tag) 0x50) _ (sym (place-under node mostLevels names) ∙ e) .0)
+place-tag node names piece e =
+    let under = ap (λ (read : Piece → Option Place). read piece) (sym (place-under node mostLevels names)) in
+    eqb-true (piece .tag) 0x50 (given-some (eqb (piece .tag) 0x50) _ (under ∙ e) .0)
 
-pub row-means : {schema row : List ℕ} {parts : RowParts} → InOrder row parts → (node : Schema) (parsed : Row)
-    → schemaOf schema ≡ some node → rowOf node row ≡ some parsed → rowMeaning node parsed ≡ rowDoc schema row parts
-unfolding rowOf rowParts rowMeaning rowDoc docUnder placeDoc andThen
-row-means {schema} {row} {parts} here node parsed is e = ?
+module _ {row : List ℕ} {parts : RowParts} (here : InOrder row parts) (node : Schema) (parsed : Row) (e : rowOf node row ≡ some parsed) where
+  abbrev Names : Dictionary
+  Names = namesIn (metadataOf row parts)
+
+  -- The row's outermost place was read under the metadata's names.
+  outermost-read : placeUnder node mostLevels Names (record { tag = 0x50; body = outermostOf row parts }) ≡ some (parsed .outermost)
+  unfolding rowOf rowParts andThen
+  outermost-read =
+      let h = halved row _ refl (parts .middle) (here .halved) in
+      let two = rw (h .pieces) at e in
+      let tagged = given-some _ _ two in
+      let named = then-some (dictionaryOf (metadataOf row parts)) _ (tagged .1) in
+      let same : Names ≡ named .0 = some-injective Names (named .0) (sym (opened-names (here .opened)) ∙ named .1) in
+      let placed = then-some (placeUnder node mostLevels (named .0) (pieceIn row (parts .middle) (length row))) _ (named .2) in
+      let is : placed .0 ≡ parsed .outermost = ap (λ (r : Row). r .outermost) (some-injective _ parsed (placed .2)) in
+      let tag = place-tag node (named .0) (pieceIn row (parts .middle) (length row)) (placed .1) in
+      ap (λ (names : Dictionary). placeUnder node mostLevels names (record { tag = 0x50; body = outermostOf row parts })) same
+      ∙ ap (λ (t : ℕ). placeUnder node mostLevels (named .0) (record { tag = t; body = outermostOf row parts })) (sym tag)
+      ∙ placed .1
+      ∙ ap some is
+
+  pub row-means : (schema : List ℕ) → schemaOf schema ≡ some node → rowMeaning node parsed ≡ rowDoc schema row parts
+  unfolding rowMeaning rowDoc docUnder placeDoc andThen
+  row-means schema is = rw (is, outermost-read)
