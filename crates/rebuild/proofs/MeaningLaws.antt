@@ -1,30 +1,30 @@
 -- What a lawful row means is what its outermost place means: the row's halves are where its judge found them.
-use mathlib.Core.Bool.{Bool, true, _&&_}
-use mathlib.Core.List.{List, []}
-use mathlib.Core.Option.{Option, none, some, Option·some-injective as some-injective}
+use mathlib.Core.List.{List}
+use mathlib.Core.Option.{Option, some, Option·some-injective as some-injective}
 use mathlib.Core.Path.{_≡_, refl, sym, ap, _∙_}
-use Prim.Native.Nat.{ℕ, _+_, _≤_}
-use native.Mathlib.Omega.{arith}
+use Prim.Native.Nat.{ℕ}
 use borrow.Author.Tests.{eqb-true}
-use lib.Dec.{leb, eqb}
+use lib.Dec.{eqb}
 use lib.ListN.{length}
 use Rattle.dictionary.proofs.DictionaryLaws.{opened-names}
 use Rattle.frames.specs.Frames.{pieceIn}
+use Rattle.normalise.specs.Answered.{Answered}
 use Rattle.paper.proofs.WordLaws.{given-some, then-some}
-use Rattle.paper.specs.Framing.{Piece, piecesOf}
-use Rattle.paper.specs.Limits.{mostLevels, mostMetadata}
-use Rattle.paper.specs.Meaning.{Doc}
+use Rattle.paper.specs.Framing.{Piece}
+use Rattle.paper.specs.Limits.{mostLevels}
 use Rattle.paper.specs.Metadata.{Dictionary, dictionaryOf, namesIn}
-use Rattle.paper.specs.Rebuilding.{orNull, placeMeaning, rowMeaning}
+use Rattle.paper.specs.Operations.{written}
+use Rattle.paper.specs.Rebuilding.{rowMeaning}
 use Rattle.paper.specs.Rows.{Place, Row, placeWithin, placeBy, placeUnder, rowParts, rowOf}
 use Rattle.paper.specs.Schemas.{Schema, schemaOf}
-use Rattle.paper.specs.Words.{at, part, given, andThen}
-use Rattle.places.proofs.HalfLaws.{Halves, halved}
+use Rattle.paper.specs.Words.{at, andThen}
+use Rattle.paper.specs.declared.DocumentAnswer.{DocumentAnswer}
+use Rattle.places.proofs.HalfLaws.{halved}
 use Rattle.places.proofs.VerdictLaws.{place-under}
 use Rattle.rebuilt.specs.Meant.{placeDoc}
 use Rattle.rows.specs.Judging.{metadataOf, outermostOf, InOrder}
 use Rattle.rows.specs.declared.judging.RowParts.{RowParts}
-use Rattle.rebuild.specs.Rebuilding.{docUnder, rowDoc}
+use Rattle.rebuild.specs.Rebuilding.{Judged, docUnder, rowDoc}
 
 -- A place that was read has a place's tag.
 place-tag : (node : Schema) (names : Dictionary) (piece : Piece) {p : Place} → placeUnder node mostLevels names piece ≡ some p → piece .tag ≡ 0x50
@@ -57,3 +57,11 @@ module _ {row : List ℕ} {parts : RowParts} (here : InOrder row parts) (node : 
   pub row-means : (schema : List ℕ) → schemaOf schema ≡ some node → rowMeaning node parsed ≡ rowDoc schema row parts
   unfolding rowMeaning rowDoc docUnder placeDoc andThen
   row-means schema is = rw (is, outermost-read)
+
+-- So what is answered of the outermost place's document is the answer.
+pub row-answers : {schema row table : List ℕ} {parts : RowParts} → Judged schema row table parts
+    → {first first′ second second′ : List ℕ} {a : DocumentAnswer} → Answered (written (rowDoc schema row parts)) first first′ second second′ a
+    → (node : Schema) (parsed : Row) → schemaOf schema ≡ some node → rowOf node row ≡ some parsed
+    → Answered (written (rowMeaning node parsed)) first first′ second second′ a
+row-answers {schema} judged answered node parsed is e =
+    rw (row-means (judged .handed .in-order) node parsed e schema is) answered

@@ -3,7 +3,7 @@
 use mathlib.Core.List.{List}
 use mathlib.Core.Option.{some}
 use mathlib.Core.Path.{_≡_, sym, ap, subst, _∙_}
-use Prim.Native.Nat.{ℕ, _+_, _*_, _≤_}
+use Prim.Native.Nat.{ℕ, _+_, _≤_}
 use native.Mathlib.Omega.{arith}
 use lib.ListN.{length, replicate, length-take, length-drop}
 use Rattle.building.proofs.MemberLaws.{part-bytes}
@@ -14,8 +14,8 @@ use Rattle.names.proofs.FewLaws.{count-is, names-few}
 use Rattle.names.proofs.UsedLaws.{names-rise}
 use Rattle.normalise.proofs.NumberedLaws.{picked-chosen}
 use Rattle.paper.proofs.WordLaws.{there-some}
-use Rattle.paper.specs.Bounds.{mostNames, mostWalked}
-use Rattle.paper.specs.Limits.{mostLeftover, mostLevels, mostRow}
+use Rattle.paper.specs.Bounds.{mostNames}
+use Rattle.paper.specs.Limits.{mostLevels}
 use Rattle.paper.specs.Meaning.{Doc}
 use Rattle.paper.specs.Metadata.{Dictionary, namesIn}
 use Rattle.paper.specs.Normal.{namesUsed, valueBytes, normalForm}

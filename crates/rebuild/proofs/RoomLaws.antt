@@ -8,7 +8,7 @@ use Rattle.building.specs.Building.{Enough}
 use Rattle.normalise.proofs.AnswerLaws.{answer-large}
 use Rattle.normalise.proofs.NumberedLaws.{last-bytes}
 use Rattle.normalise.specs.Answered.{Answered}
-use Rattle.paper.specs.Limits.{mostLeftover, mostRow, mostValue}
+use Rattle.paper.specs.Limits.{mostLeftover, mostValue}
 use Rattle.paper.specs.Meaning.{Doc}
 use Rattle.paper.specs.Metadata.{Dictionary}
 use Rattle.paper.specs.Normal.{namesUsed, normalForm}
@@ -19,20 +19,31 @@ use Rattle.paper.specs.declared.Refusal.the-variants.{TooLarge}
 use Rattle.putting.specs.Put.{PutAs, put, full}
 use Rattle.putting.specs.declared.Put.the-variants.{At, Full}
 use Rattle.putting.specs.declared.Put.{Put}
+use Rattle.rows.specs.Judging.{outermostOf}
+use Rattle.rows.specs.declared.judging.RowParts.{RowParts}
 use Rattle.writing.specs.Ends.{EndsAt}
-use Rattle.rebuild.specs.Rebuilding.{TriedAs, told, noRoom}
+use Rattle.rebuild.proofs.NumberedLaws.{outermost-short}
+use Rattle.rebuild.specs.Rebuilding.{Numbered, TriedAs, told, noRoom}
 use Rattle.rebuild.specs.declared.Tried.the-variants.{Told, NoRoom}
 use Rattle.rebuild.specs.declared.Tried.{Tried}
 
 -- ---- which tables and floor suffice
 
--- A floor of twice the row's length.
-pub enough-short : {size places ids floor : ℕ} → size ≤ mostRow → size ≤ places → size ≤ ids → 2 * size ≤ floor → Enough size places ids floor
-enough-short small places ids high = record { small = small; places-room = places; ids-room = ids; high = λ n h k. omega arith }
+module _ {schema row table : List ℕ} {parts : RowParts} {ranks chosen : List ℕ} {count : ℕ} (n : Numbered schema row table parts ranks chosen count) where
+  -- A floor at twice a short row's length.
+  pub short-enough : {places ids floor : ℕ} → length row ≤ 1024 → 1024 ≤ places → 1024 ≤ ids → 2048 ≤ floor
+      → Enough (length (outermostOf row parts)) places ids floor
+  short-enough short places ids high =
+      let within = outermost-short row parts in
+      record { small = omega arith; places-room = omega arith; ids-room = omega arith; high = λ n h k. omega arith }
 
--- A floor of twice the longest leftover's length.
-pub enough-long : {size places ids floor : ℕ} → size ≤ mostRow → size ≤ places → size ≤ ids → 2 * mostLeftover ≤ floor → Enough size places ids floor
-enough-long small places ids high = record { small = small; places-room = places; ids-room = ids; high = λ n h k. omega arith }
+  -- A floor at twice the longest leftover's length.
+  pub long-enough : {places ids floor : ℕ} → length row ≤ places → length row ≤ ids → 2 * mostLeftover ≤ floor
+      → Enough (length (outermostOf row parts)) places ids floor
+  long-enough places ids high =
+      let within = outermost-short row parts in
+      let short = n .judged .row-short in
+      record { small = omega arith; places-room = omega arith; ids-room = omega arith; high = λ n h k. omega arith }
 
 -- ---- what was put
 

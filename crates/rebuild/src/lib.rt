@@ -212,7 +212,52 @@ fn with_notes(
     )
 }
 
-// With the names numbered: a short row tries the short room first.
+// A short row tries the short room first.
+fn for_short_row(
+    readings: &[u8],
+    schema: &[u8],
+    row: &[u8],
+    parts: RowParts,
+    table: &[u16],
+    ranks: &[u16],
+    chosen: &[u16],
+    count: usize,
+    metadata_out: &mut [u8],
+    value_out: &mut [u8],
+) -> DocumentAnswer
+    requires { ⌜ Readings (now readings) × Numbered (now schema) (now row) (now table) parts (now ranks) (now chosen) count × (length (now row) ≤ 1024) ⌝ }
+    ensures { λ r. ⌜ Answered (written (rowDoc (now (schema .entry)) (now (row .entry)) parts)) (now («metadata_out» .entry)) (now («metadata_out» .exit)) (now («value_out» .entry)) (now («value_out» .exit)) r ⌝ }
+{
+    let tried = in_short_room(
+        readings,
+        schema,
+        row,
+        parts,
+        table,
+        ranks,
+        chosen,
+        count,
+        metadata_out,
+        value_out,
+    );
+    match tried {
+        Tried::Told(answer) => answer,
+        Tried::NoRoom => with_notes(
+            readings,
+            schema,
+            row,
+            parts,
+            table,
+            ranks,
+            chosen,
+            count,
+            metadata_out,
+            value_out,
+        ),
+    }
+}
+
+// With the names numbered: by the row's length.
 fn with_room(
     readings: &[u8],
     schema: &[u8],
@@ -228,20 +273,32 @@ fn with_room(
     requires { ⌜ Readings (now readings) × Numbered (now schema) (now row) (now table) parts (now ranks) (now chosen) count ⌝ }
     ensures { λ r. ⌜ Answered (written (rowDoc (now (schema .entry)) (now (row .entry)) parts)) (now («metadata_out» .entry)) (now («metadata_out» .exit)) (now («value_out» .entry)) (now («value_out» .exit)) r ⌝ }
 {
-    if 1024 < row.len() {
-        return with_notes(
-            readings, schema, row, parts, table, ranks, chosen, count, metadata_out, value_out,
+    if row.len() <= 1024 {
+        return for_short_row(
+            readings,
+            schema,
+            row,
+            parts,
+            table,
+            ranks,
+            chosen,
+            count,
+            metadata_out,
+            value_out,
         );
     }
-    let tried = in_short_room(
-        readings, schema, row, parts, table, ranks, chosen, count, metadata_out, value_out,
-    );
-    match tried {
-        Tried::Told(answer) => answer,
-        Tried::NoRoom => with_notes(
-            readings, schema, row, parts, table, ranks, chosen, count, metadata_out, value_out,
-        ),
-    }
+    with_notes(
+        readings,
+        schema,
+        row,
+        parts,
+        table,
+        ranks,
+        chosen,
+        count,
+        metadata_out,
+        value_out,
+    )
 }
 
 // Numbers the names that the row uses, in tables that have an entry for each name of its dictionary.
@@ -287,8 +344,8 @@ fn with_tables(
     )
 }
 
-// Writes the document of a lawful row in its normal form. The tables go by the number of names in the row's dictionary.
-pub fn rebuild(
+// With tables for more names than a few.
+fn for_more_names(
     schema: &[u8],
     row: &[u8],
     parts: RowParts,
@@ -297,25 +354,9 @@ pub fn rebuild(
     value_out: &mut [u8],
 ) -> DocumentAnswer
     requires { ⌜ Judged (now schema) (now row) (now table) parts ⌝ }
-    ensures { λ r. ⌜ ((node : Schema) (parsed : Row) → schemaOf (now (schema .entry)) ≡ some node → rowOf node (now (row .entry)) ≡ some parsed → Answered (written (rowMeaning node parsed)) (now («metadata_out» .entry)) (now («metadata_out» .exit)) (now («value_out» .entry)) (now («value_out» .exit)) r) ⌝ }
+    ensures { λ r. ⌜ Answered (written (rowDoc (now (schema .entry)) (now (row .entry)) parts)) (now («metadata_out» .entry)) (now («metadata_out» .exit)) (now («value_out» .entry)) (now («value_out» .exit)) r ⌝ }
 {
     let names = parts.names;
-    if names.count <= 64 {
-        let mut used = [0u8; 64];
-        let mut ranks = [0u16; 64];
-        let mut chosen = [0u16; 64];
-        return with_tables(
-            schema,
-            row,
-            parts,
-            table,
-            &mut used,
-            &mut ranks,
-            &mut chosen,
-            metadata_out,
-            value_out,
-        );
-    }
     if names.count <= 1024 {
         let mut used = [0u8; 1024];
         let mut ranks = [0u16; 1024];
@@ -346,4 +387,36 @@ pub fn rebuild(
         metadata_out,
         value_out,
     )
+}
+
+// Writes the document of a lawful row in its normal form. The tables go by the number of names in the row's dictionary.
+pub fn rebuild(
+    schema: &[u8],
+    row: &[u8],
+    parts: RowParts,
+    table: &[u16],
+    metadata_out: &mut [u8],
+    value_out: &mut [u8],
+) -> DocumentAnswer
+    requires { ⌜ Judged (now schema) (now row) (now table) parts ⌝ }
+    ensures { λ r. ⌜ ((node : Schema) (parsed : Row) → schemaOf (now (schema .entry)) ≡ some node → rowOf node (now (row .entry)) ≡ some parsed → Answered (written (rowMeaning node parsed)) (now («metadata_out» .entry)) (now («metadata_out» .exit)) (now («value_out» .entry)) (now («value_out» .exit)) r) ⌝ }
+{
+    let names = parts.names;
+    if names.count <= 64 {
+        let mut used = [0u8; 64];
+        let mut ranks = [0u16; 64];
+        let mut chosen = [0u16; 64];
+        return with_tables(
+            schema,
+            row,
+            parts,
+            table,
+            &mut used,
+            &mut ranks,
+            &mut chosen,
+            metadata_out,
+            value_out,
+        );
+    }
+    for_more_names(schema, row, parts, table, metadata_out, value_out)
 }
