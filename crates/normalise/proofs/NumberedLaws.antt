@@ -107,7 +107,7 @@ write-answers {m} {names} {v} {ranks} {chosen} {count} n {before} {after} {start
     rw (← same) (answers (n .d) (n .used) (last-bytes own))
 
 -- What is among the names of ids of a dictionary is among its names.
-picked-among : (names : Dictionary) (ids : List ℕ) → allBelow (length names) ids ≡ true
+pub picked-among : (names : Dictionary) (ids : List ℕ) → allBelow (length names) ids ≡ true
     → (name : List ℕ) → among name (namesAt names ids) ≡ true → among name names ≡ true
 picked-among names ids below name e =
     let n = named names ids name e in

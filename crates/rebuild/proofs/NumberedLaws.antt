@@ -8,17 +8,19 @@ use native.Mathlib.Omega.{arith}
 use lib.ListN.{length, replicate, length-take, length-drop}
 use Rattle.building.proofs.MemberLaws.{part-bytes}
 use Rattle.building.specs.Building.{Bytes, Enough, PlaceReady}
+use Rattle.dictionary.proofs.DictionaryLaws.{opened-names}
 use Rattle.gathering.specs.Gathering.{PlaceReady as Gatherable}
 use Rattle.marking.specs.Ids.{markIds}
 use Rattle.names.proofs.FewLaws.{count-is, names-few}
+use Rattle.names.proofs.NeverLongerLaws.{never-longer}
 use Rattle.names.proofs.UsedLaws.{names-rise}
-use Rattle.normalise.proofs.NumberedLaws.{picked-chosen}
+use Rattle.normalise.proofs.NumberedLaws.{picked-among, picked-chosen}
 use Rattle.paper.proofs.WordLaws.{there-some}
 use Rattle.paper.specs.Bounds.{mostNames}
-use Rattle.paper.specs.Limits.{mostLevels}
+use Rattle.paper.specs.Limits.{mostLevels, mostMetadata}
 use Rattle.paper.specs.Meaning.{Doc}
 use Rattle.paper.specs.Metadata.{Dictionary, namesIn}
-use Rattle.paper.specs.Normal.{namesUsed, valueBytes, normalForm}
+use Rattle.paper.specs.Normal.{namesUsed, metadataBytes, valueBytes, normalForm}
 use Rattle.paper.specs.Schemas.{Schema, schemaOf}
 use Rattle.places.specs.Verdicts.{placeVerdict}
 use Rattle.places.specs.declared.verdicts.Verdict.the-variants.{Lawful}
@@ -27,6 +29,7 @@ use Rattle.putting.specs.declared.Put.{Put}
 use Rattle.ranking.specs.Ranks.{Ranked}
 use Rattle.rebuilt.proofs.ChosenLaws.{row-chosen, row-numbered}
 use Rattle.rebuilt.proofs.RebuiltLaws.{place-rebuilt}
+use Rattle.rebuilt.proofs.UsingLaws.{place-ids-below, place-ids-used}
 use Rattle.rebuilt.specs.Meant.{placeDoc}
 use Rattle.rebuilt.specs.Rebuilt.{placeRebuilt}
 use Rattle.rebuilt.specs.There.{PlaceThere, Numbered as NumberedIds}
@@ -111,6 +114,23 @@ module _ {schema row table : List ℕ} {parts : RowParts} (judged : Judged schem
 
       marked : (under : Schema) → schemaOf schema ≡ some under → used ≡ markIds (replicate (length before) 0) (placeIds under mostLevels schema table 0 body)
       marked under is = marks under (schema-stands schema under is .0) ∙ ap (λ (l : List ℕ). markIds l (placeIds under mostLevels schema table 0 body)) clean
+
+  -- The names used are names of the row's dictionary, so the normal metadata is no longer than the row's.
+  pub metadata-fits : Bytes row → length (normalForm (rowDoc schema row parts) .metadata) ≤ mostMetadata
+  unfolding normalForm
+  metadata-fits bytes =
+      let got = there-some (schemaOf schema) (judged .good) in
+      let here = judged .handed .in-order in
+      let told = judged .handed .told (got .0) (got .1) in
+      let lawful = place-lawful (got .0) (got .1) in
+      let d : Doc = placeDoc (got .0) mostLevels Names (outermostOf row parts) in
+      let below = place-ids-below (got .0) mostLevels Names schema table 0 (outermostOf row parts) told lawful in
+      let used = place-ids-used (got .0) mostLevels Names schema table 0 (outermostOf row parts) told lawful in
+      let shorter : length (metadataBytes (namesUsed d)) ≤ length (metadataOf row parts) =
+      never-longer (metadataOf row parts) Names (opened-names (here .opened)) (part-bytes row bytes 3 (parts .middle)) (namesUsed d) (names-rise d)
+      (λ name e. picked-among Names _ below name (used name ∙ e)) in
+      let short = here .short in
+      rw (doc-under schema row parts (got .0) (got .1)) (omega arith)
 
 -- ---- numbered: what the writing asks, and what is written
 
