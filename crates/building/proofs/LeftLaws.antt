@@ -5,9 +5,13 @@ use mathlib.Core.Option.{Option, none, some, Option·some-injective as some-inje
 use mathlib.Core.Path.{_≡_, refl, sym, ap, subst, _∙_}
 use Prim.Native.Nat.{ℕ, zero, suc, _+_, _-_, _*_, _%_, _≤_, _<_}
 use native.Mathlib.Omega.{arith}
-use borrow.Author.Tests.{eqb-true}
+use borrow.Author.Tests.{eqb-true, ltb-true}
+use lib.Dec.{ltb}
 use lib.ListN.{length, getD, drop, length-drop}
-use Rattle.containers.proofs.ChildLaws.{extent-fits}
+use Rattle.containers.proofs.ChildLaws.{extent-fits, children-below}
+use Rattle.containers.proofs.WalkLaws.{below-more}
+use Rattle.marking.proofs.UsedIdLaws.{ids-below}
+use Rattle.ranking.proofs.HeldLaws.{below-both}
 use Rattle.containers.proofs.LayoutLaws.{ids-starts-length}
 use Rattle.containers.specs.Children.{onceIn}
 use Rattle.containers.specs.Layouts.{Container}
@@ -42,14 +46,15 @@ use Rattle.building.specs.Building.{Bytes, LeftObject, MemberReady, left
 module _ (levels : ℕ) (names normal : Dictionary) (ranks schema table area body : List ℕ) (places ids floor : ℕ) (bytes : Bytes area)
     (short : length area ≤ mostLeftover) (high : (n : ℕ) → n ≤ length area → 2 * n ≤ floor) where
   abbrev Is : ℕ → ℕ → Member → Type 0
-  Is = MemberReady levels ranks schema table area body places ids floor
+  Is at field m = MemberReady levels ranks schema table area body places ids floor at field m × (m .id < length ranks)
 
   abbrev own : ℕ → ℕ → List ℕ
   own start size = childBytes area (record { start = start; size = size })
 
   -- One member.
   left-member : (id start size : ℕ) → childExtent area start ≡ some size → isThere (meaningOf levels names (own start size)) ≡ true
-      → Numbered names normal ranks (idsIn levels (own start size)) → Is start 0 (record { id = id; bytes = partAt (rewritten levels ranks) area start })
+      → Numbered names normal ranks (idsIn levels (own start size))
+      → MemberReady levels ranks schema table area body places ids floor start 0 (record { id = id; bytes = partAt (rewritten levels ranks) area start })
   unfolding partAt sizedPart
   left-member id start size long meant numbered =
       let means = there-some (meaningOf levels names (own start size)) meant in
@@ -60,23 +65,26 @@ module _ (levels : ℕ) (names normal : Dictionary) (ranks schema table area bod
 
   -- All of them.
   children-ready : (own-ids starts : List ℕ) (kids : List Child) → length own-ids ≡ length starts → childrenAt area starts ≡ some kids
-      → allGood (meaningOf levels names) area kids ≡ true → Numbered names normal ranks (idsOfAll (idsIn levels) area kids)
+      → allGood (meaningOf levels names) area kids ≡ true → Numbered names normal ranks (idsOfAll (idsIn levels) area kids) → allBelow (length ranks) own-ids ≡ true
       → InStep Is (leftNotes own-ids starts) (membersWith own-ids (map (partAt (rewritten levels ranks) area) starts))
-  unfolding leftNotes membersWith childrenAt allGood idsOfAll
-  children-ready [] [] kids many are good numbered = noneReady
-  children-ready [] (start ∷ starts) kids many are good numbered = noneReady
-  children-ready (id ∷ own-ids) [] kids many are good numbered = noneReady
-  children-ready (id ∷ own-ids) (start ∷ starts) kids many are good numbered =
+  unfolding leftNotes membersWith childrenAt allGood idsOfAll allBelow
+  children-ready [] [] kids many are good numbered below = noneReady
+  children-ready [] (start ∷ starts) kids many are good numbered below = noneReady
+  children-ready (id ∷ own-ids) [] kids many are good numbered below = noneReady
+  children-ready (id ∷ own-ids) (start ∷ starts) kids many are good numbered below =
       let first = then-some (childExtent area start) _ are in
       let rest = then-some (childrenAt area starts) _ (first .2) in
       let child : Child = record { start = start; size = first .0 } in
       let is : kids ≡ child ∷ rest .0 = sym (some-injective (child ∷ rest .0) kids (rest .2)) in
       let goods = and-both (isThere (meaningOf levels names (childBytes area child))) (allGood (meaningOf levels names) area (rest .0)) (rw is at good) in
       let all : Numbered names normal ranks (idsIn levels (childBytes area child) ++ idsOfAll (idsIn levels) area (rest .0)) = rw is at numbered in
-      oneReady refl
-      (left-member id start (first .0) (first .1) (goods .0) (numbered-front (idsIn levels (childBytes area child)) (idsOfAll (idsIn levels) area (rest .0)) all))
+      let belows = and-both (ltb id (length ranks)) (allBelow (length ranks) own-ids) below in
+      oneReady refl (
+        left-member id start (first .0) (first .1) (goods .0) (numbered-front (idsIn levels (childBytes area child)) (idsOfAll (idsIn levels) area (rest .0)) all),
+        ltb-true id (length ranks) (belows .0),
+      )
       (children-ready own-ids starts (rest .0) (omega arith) (rest .1) (goods .1)
-      (numbered-behind (idsIn levels (childBytes area child)) (idsOfAll (idsIn levels) area (rest .0)) all))
+      (numbered-behind (idsIn levels (childBytes area child)) (idsOfAll (idsIn levels) area (rest .0)) all) (belows .1))
 
 -- ---- a leftover object by its head
 
@@ -84,7 +92,6 @@ one-less : (levels : ℕ) → suc levels - 1 ≡ levels
 one-less levels = omega arith
 
 module _ {levels : ℕ} {names normal : Dictionary} {ranks left : List ℕ} (beside : LeftObject (suc levels) names normal ranks left) where
-
   told : OneLevel (suc levels) names ranks left
   told = one-level (suc levels) names ranks left (some-there (meaningOf (suc levels) names left) (beside .means))
 
@@ -119,7 +126,7 @@ module _ {levels : ℕ} {names normal : Dictionary} {ranks left : List ℕ} (bes
         and-both (onceIn (length area) (childrenAt area (startsOf c i w left))) _ (first .1) .1
 
     pub left-ready : (schema table body : List ℕ) (places ids floor : ℕ) → ((n : ℕ) → n ≤ length left → 2 * n ≤ floor)
-        → InStep (MemberReady levels ranks schema table area body places ids floor) (leftNotes (idsOf c i left) (startsOf c i w left)) (leftMembers levels ranks left)
+        → InStep (λ at field m. MemberReady levels ranks schema table area body places ids floor at field m × (m .id < length ranks)) (leftNotes (idsOf c i left) (startsOf c i w left)) (leftMembers levels ranks left)
     unfolding leftMembers leftMembersBy partsOf insidesGood idsInside areaOf
     left-ready schema table body places ids floor high =
         rw is (go (childrenAt area (startsOf c i w left)) refl left-good (numbered-behind (idsOf c i left) _ left-numbered))
@@ -129,7 +136,7 @@ module _ {levels : ℕ} {names normal : Dictionary} {ranks left : List ℕ} (bes
 
         go : (x : Option (List Child)) → childrenAt area (startsOf c i w left) ≡ x → insidesGood (meaningOf levels names) area x ≡ true
             → Numbered names normal ranks (idsInside (idsIn levels) area x)
-            → InStep (MemberReady levels ranks schema table area body places ids floor) (leftNotes (idsOf c i left) (startsOf c i w left))
+            → InStep (λ at field m. MemberReady levels ranks schema table area body places ids floor at field m × (m .id < length ranks)) (leftNotes (idsOf c i left) (startsOf c i w left))
             (membersWith (idsOf c i left) (map (partAt (rewritten levels ranks) area) (startsOf c i w left)))
         go none are good numbered = never (sym good)
         go (some kids) are good numbered =
@@ -137,3 +144,22 @@ module _ {levels : ℕ} {names normal : Dictionary} {ranks left : List ℕ} (bes
             let less-long = shorter in
             children-ready levels names normal ranks schema table area body places ids floor (bytes-drop (headSize (numberAt left 1 c) c i w) left (beside .bytes)) (omega arith)
             (λ n h. high n (omega (arith, shorter))) (idsOf c i left) (startsOf c i w left) kids (ids-starts-length left c i w left-container left-least) are good numbered
+            (numbered-front (idsOf c i left) _ left-numbered .below)
+
+    -- its ids are the dictionary's
+    pub left-known : allBelow (length names) (idsOf c i left) ≡ true
+    left-known =
+        let all : allBelow (length names) (idsOf c i left ++ idsInside (idsIn levels) area (childrenAt area (startsOf c i w left))) ≡ true =
+        rw left-ids at (ids-below (suc levels) names left (object (beside .members)) (beside .means)) in
+        below-both (length names) (idsOf c i left) (idsInside (idsIn levels) area (childrenAt area (startsOf c i w left))) all .0
+
+    -- its starts are inside it
+    pub left-low : allBelow (length left) (startsOf c i w left) ≡ true
+    unfolding areaOf insidesGood isThere
+    left-low =
+        let shorter : length area ≤ length left = rw length-drop (omega arith) in
+        below-more (length area) (length left) (startsOf c i w left) shorter (children-below area (startsOf c i w left) (good-there (childrenAt area (startsOf c i w left)) left-good))
+      where
+        good-there : (x : Option (List Child)) → insidesGood (meaningOf levels names) area x ≡ true → isThere x ≡ true
+        good-there none good = never (sym good)
+        good-there (some kids) good = refl

@@ -23,6 +23,7 @@ use Rattle.paper.specs.Schemas.{Schema, SchemaFields, noColumns, named}
 use Rattle.paper.specs.Words.{part}
 use Rattle.places.proofs.StepLaws.{place-ends}
 use Rattle.places.specs.Frames.{placeEnd, placeFrame}
+use Rattle.ranking.proofs.HeldLaws.{held-first, below-held}
 use Rattle.rebuilt.proofs.InnerLaws.{NamedBy, pieces-none, members-none, members-over, member-first, member-has, member-rises, member-whole, member-fits, member-place, members-behind, member-pieces, member-named}
 use Rattle.rebuilt.proofs.NumberedLaws.{numbered-front, numbered-behind, numbered-more}
 use Rattle.rebuilt.specs.Members.{Member}
@@ -131,7 +132,7 @@ part-bytes s bytes from to = bytes-take (to - from) (drop from s) (bytes-drop fr
 module _ (levels : ℕ) (names normal : Dictionary) (ranks schema table area body : List ℕ) (to places ids floor total : ℕ)
     (ground : Ground names normal ranks schema) (bytes : Bytes body) (enough : (n : ℕ) → 3 * total + n ≤ length body → Enough n places ids floor) where
   abbrev Is : ℕ → ℕ → Member → Type 0
-  Is = MemberReady levels ranks schema table area body places ids floor
+  Is at field m = MemberReady levels ranks schema table area body places ids floor at field m × (m .id < length ranks)
 
   module _ (piece : Piece) (more : List Piece) (field place : ℕ) (there : MembersThere levels names schema table field to (drop place body))
       (are : piecesIn (drop place body) ≡ piece ∷ more) (all : 3 * total ≤ 3 * length (piece ∷ more) + place) where
@@ -167,13 +168,14 @@ module _ (levels : ℕ) (names normal : Dictionary) (ranks schema table area bod
     abbrev HereBytes : List ℕ
     HereBytes = placeRebuilt (one .node) levels ranks schema table (fieldNode schema field) (piece .body)
 
-    ready-here : (id : ℕ) → Numbered names normal ranks HereIds → 0 < field → Is place field (record { id = id; bytes = HereBytes })
+    ready-here : (id : ℕ) → Numbered names normal ranks HereIds → 0 < field
+        → MemberReady levels ranks schema table area body places ids floor place field (record { id = id; bytes = HereBytes })
     unfolding place-ready
     ready-here id numbered h =
         let same : placeRebuilt (one .here .under) levels ranks schema table (fieldNode schema field) (part body (place + 3) (one .end)) ≡ HereBytes =
         ap (λ (u : Schema). placeRebuilt u levels ranks schema table (fieldNode schema field) (part body (place + 3) (one .end))) (one .here-is)
         ∙ ap (placeRebuilt (one .node) levels ranks schema table (fieldNode schema field)) (sym (one .piece-is)) in
-        subst (λ (s : List ℕ). Is place field (record { id = id; bytes = s })) same (placeReady place field (one .end) id (place-ready numbered) h (one .ends))
+        subst (λ (s : List ℕ). MemberReady levels ranks schema table area body places ids floor place field (record { id = id; bytes = s })) same (placeReady place field (one .end) id (place-ready numbered) h (one .ends))
 
     -- the place is present: an id has its name
     present : (b : ℕ) (bs : List ℕ) (looked : Looked) → NamedBy names (one .name) looked → Numbered names normal ranks (addId (b ∷ bs) looked (HereIds ++ LaterIds))
@@ -181,7 +183,11 @@ module _ (levels : ℕ) (names normal : Dictionary) (ranks schema table area bod
         → InStep Is (addNote (b ∷ bs) looked place field notes) (addMember (b ∷ bs) looked HereBytes ms)
     unfolding addNote addMember addId
     present b bs (At id) known numbered h later =
-        oneReady refl (ready-here (id .0) (numbered-front HereIds LaterIds (numbered-more (id .0) (HereIds ++ LaterIds) numbered)) h) later
+        oneReady refl (
+          ready-here (id .0) (numbered-front HereIds LaterIds (numbered-more (id .0) (HereIds ++ LaterIds) numbered)) h,
+          below-held (length ranks) (id .0 ∷ (HereIds ++ LaterIds)) (numbered .below) (id .0) (held-first (id .0) (HereIds ++ LaterIds)),
+        )
+        later
     present b bs Nowhere known numbered h later = let is = known .looked-is in let z : _≡_ {A = ℕ} 0 1 = cc in absurd (omega arith)
 
     later-numbered : (b : List ℕ) (looked : Looked) → Numbered names normal ranks (addId b looked (HereIds ++ LaterIds)) → Numbered names normal ranks LaterIds

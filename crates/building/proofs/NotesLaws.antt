@@ -5,10 +5,12 @@ use mathlib.Core.List.{List, [], _∷_, map}
 use mathlib.Core.Path.{_≡_, refl, sym, ap, _∙_}
 use Prim.Native.Nat.{ℕ, zero, suc, _+_, _<_}
 use native.Mathlib.Omega.{arith}
+use borrow.Author.Tests.{lt-ltb}
 use lib.Dec.{ltb}
 use lib.ListN.{length, getD}
 use Rattle.noting.specs.Notes.{Note, noteRank}
 use Rattle.paper.proofs.WordLaws.{never}
+use Rattle.paper.specs.Words.{allBelow}
 use Rattle.rebuilt.specs.Members.{Member, mergeInto, mergedBy, normalIdOf}
 use Rattle.building.specs.Building.{memberIn}
 
@@ -62,3 +64,27 @@ module _ {Is : ℕ → ℕ → Member → Type 0} where
   pub ready-ids : {notes : List Note} {ms : List Member} → InStep Is notes ms → map (λ (m : Member). m .id) ms ≡ map (λ (n : Note). n .id) notes
   ready-ids noneReady = refl
   ready-ids (oneReady {note} {m} {notes} {ms} same ready more) = rw (ready-ids more, same)
+
+-- Ids that are below a bound, each by itself, are all below it.
+pub ready-below : {Is : ℕ → ℕ → Member → Type 0} (bound : ℕ) → ((at field : ℕ) (m : Member) → Is at field m → m .id < bound) → {notes : List Note} {ms : List Member}
+    → InStep Is notes ms → allBelow bound (map (λ (n : Note). n .id) notes) ≡ true
+unfolding allBelow
+ready-below bound each noneReady = refl
+ready-below bound each (oneReady {note} {m} same ready more) =
+    rw (lt-ltb (note .id) bound (let low = each (note .place) (note .field) m ready in omega arith), ready-below bound each more)
+
+-- Two lists merged are as long as both.
+into-length : {A : Type 0} (key : A → ℕ) (x : A) (rest : List A → List A) (n : ℕ) → ((l : List A) → length (rest l) ≡ n + length l) → (ys : List A)
+    → length (mergeInto key x rest ys) ≡ suc n + length ys
+unfolding mergeInto
+into-length key x rest n each [] = let here = each [] in omega arith
+into-length key x rest n each (y ∷ ys) = go (ltb (key y) (key x)) (into-length key x rest n each ys)
+  where
+    go : (b : Bool) → length (mergeInto key x rest ys) ≡ suc n + length ys → length (cond b (y ∷ mergeInto key x rest ys) (x ∷ rest (y ∷ ys))) ≡ suc n + length (y ∷ ys)
+    go true later = omega arith
+    go false later = let here = each (y ∷ ys) in omega arith
+
+pub merged-length : {A : Type 0} (key : A → ℕ) (xs ys : List A) → length (mergedBy key xs ys) ≡ length xs + length ys
+unfolding mergedBy
+merged-length key [] ys = omega arith
+merged-length key (x ∷ xs) ys = into-length key x (mergedBy key xs) (length xs) (λ l. merged-length key xs l) ys

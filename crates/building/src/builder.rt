@@ -14,6 +14,7 @@ use frames::Frame;
 use heads::Extent;
 use noting::note_elements;
 use noting::note_fields;
+use noting::spot;
 use paper::Reading;
 use places::Parts;
 use places::place_frame;
@@ -170,7 +171,7 @@ fn list_places(
     let mut i = count;
     while 0 < i {
         i -= 1;
-        let at = places[i] as usize;
+        let at = spot(places, i);
         let Frame::Ends(to) = place_frame(body, at) else {
             return Put::Full;
         };
@@ -269,8 +270,8 @@ fn noted_places(
     let mut i = count;
     while 0 < i {
         i -= 1;
-        let at = places[2 * i] as usize;
-        let field = places[2 * i + 1] as usize;
+        let at = spot(places, 2 * i);
+        let field = spot(places, 2 * i + 1);
         let one = member(
             levels,
             readings,

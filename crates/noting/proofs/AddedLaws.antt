@@ -1,40 +1,21 @@
 -- Notes added behind those that stand in the tables: one, and some behind others.
-use mathlib.Core.Bool.{Bool, true, false}
 use mathlib.Core.List.{List, [], _∷_, _++_, map, append-assoc, append-nil, map-append}
 use mathlib.Core.Path.{_≡_, refl, sym, ap, _∙_}
 use Prim.Native.Nat.{ℕ, suc, _+_, _*_, _≤_, _<_}
 use native.Mathlib.Numerals.{add-one}
 use native.Mathlib.Omega.{arith}
-use borrow.Author.Tests.{eqb-true, eqb-false}
-use lib.Dec.{eqb}
-use lib.ListN.{length, getD, set, length-append, length-set, length-map, List·getD-append}
-use lib.Seq.{getD-set-same, getD-set-other, getD-at}
+use lib.ListN.{length, getD, set, length-append, length-set, length-map}
+use lib.Seq.{getD-set-same, getD-set-other}
 use Rattle.numbers.specs.Little.{number, numberBytes, putAt}
 use Rattle.paper.specs.Bounds.{mostWalked}
 use Rattle.paper.specs.Words.{numbers}
 use Rattle.numbers.proofs.NumberLaws.{length-number-bytes, read-back}
 use Rattle.numbers.proofs.PutLaws.{length-put}
-use Rattle.noting.proofs.FrontLaws.{numbers-put}
+use Rattle.noting.proofs.FrontLaws.{one-further, numbers-put}
 use Rattle.noting.specs.Adding.{NoteRoom, Added}
 use Rattle.noting.specs.Notes.{Note, Noted}
 
 -- ---- one note
-
--- Entries of a table that follows some numbers, and of one more.
-one-further : (f : Note → ℕ) (notes : List Note) (note : Note) (entry : ℕ → ℕ) (n : ℕ) → n ≡ length notes
-    → ((k : ℕ) → k < n → entry k ≡ getD (map f notes) k 0) → entry n ≡ f note
-    → (k : ℕ) → k < n + 1 → entry k ≡ getD (map f (notes ++ (note ∷ []))) k 0
-one-further f notes note entry n size each last k h = rw (map-append f notes (note ∷ [])) (go (eqb k n) refl)
-  where
-    long : length (map f notes) ≡ n
-    long = length-map notes f ∙ sym size
-
-    go : (b : Bool) → eqb k n ≡ b → entry k ≡ getD (map f notes ++ (f note ∷ [])) k 0
-    go true e = let same : k ≡ n = eqb-true k n e in rw same (last ∙ sym (getD-at (map f notes) (f note) [] 0 n long))
-    go false e =
-        let other = eqb-false k n e in
-        let inside : k < n = omega arith in
-        each k inside ∙ sym (List·getD-append (map f notes) (f note ∷ []) 0 k (rw long inside))
 
 -- A note that the code has entered.
 pub record Entered (note : Note) (places ids : List ℕ) (n : ℕ) (places-after ids-after : List ℕ) : Type 0 where
@@ -86,6 +67,11 @@ module _ {note : Note} {places ids : List ℕ} {n : ℕ} {places-after ids-after
       ap (numbers 2 (n + 1)) (entered .wrote)
       ∙ rw (add-one n, same, numbers-put 2 n ids (numberBytes 2 (note .id)) (omega arith) (length-number-bytes 2 (note .id)) written, back)
 
+  each-entered : (f : Note → ℕ) (entry : ℕ → ℕ) (notes : List Note) → n ≡ length notes → ((k : ℕ) → k < n → entry k ≡ getD (map f notes) k 0) → entry n ≡ f note
+      → (k : ℕ) → k < n + 1 → entry k ≡ getD (map f (notes ++ (note ∷ []))) k 0
+  each-entered f entry notes size each last k h =
+      rw (map-append f notes (note ∷ [])) (one-further entry (map f notes) (f note) (length-map notes f ∙ sym size) each last k h)
+
   pub one-added : Added (note ∷ []) places ids n places-after ids-after (n + 1)
   one-added =
       record {
@@ -97,9 +83,9 @@ module _ {note : Note} {places ids : List ℕ} {n : ℕ} {places-after ids-after
               places-room = rw places-long (entered .room .places-room);
               ids-room = rw ids-long (entered .room .ids-room);
               ids-are = ids-entered ∙ ap (λ (l : List ℕ). l ++ (note .id ∷ [])) (noted .ids-are) ∙ sym (map-append (λ (m : Note). m .id) notes (note ∷ []));
-              place-is = one-further (λ m. m .place) notes note (λ k. getD places-after (2 * k) 0) n (noted .size)
+              place-is = each-entered (λ m. m .place) (λ k. getD places-after (2 * k) 0) notes (noted .size)
                   (λ k h. entry-kept (2 * k) (omega arith) ∙ noted .place-is k h) place-entered;
-              field-is = one-further (λ m. m .field) notes note (λ k. getD places-after (2 * k + 1) 0) n (noted .size)
+              field-is = each-entered (λ m. m .field) (λ k. getD places-after (2 * k + 1) 0) notes (noted .size)
                   (λ k h. entry-kept (2 * k + 1) (omega arith) ∙ noted .field-is k h) field-entered;
             };
       }

@@ -1,14 +1,10 @@
 -- A list's places noted: those in front of a place stand in the table, and those from it on are left.
-use mathlib.Core.Bool.{Bool, true, false}
 use mathlib.Core.List.{List, [], _∷_, _++_, append-nil, append-assoc}
 use mathlib.Core.Path.{_≡_, refl, sym, ap, _∙_}
-use Prim.Native.Nat.{ℕ, _+_, _-_, _^_, _≤_, _<_}
+use Prim.Native.Nat.{ℕ, _+_, _-_, _≤_, _<_}
 use native.Mathlib.Omega.{arith}
-use borrow.Author.Tests.{eqb-true, eqb-false}
-use lib.Dec.{eqb}
-use lib.ListN.{length, getD, set, drop, length-append, length-set, length-take, length-drop, List·getD-append}
-use lib.Seq.{getD-set-same, getD-set-other, getD-at}
-use Rattle.frames.specs.Frames.{pieceIn}
+use lib.ListN.{length, getD, set, drop, length-append, length-set, length-take, length-drop}
+use lib.Seq.{getD-set-same, getD-set-other}
 use Rattle.frames.specs.declared.Frame.the-variants.{Ends, Cut}
 use Rattle.frames.specs.declared.Frame.{Frame}
 use Rattle.paper.specs.Framing.{Piece}
@@ -16,6 +12,7 @@ use Rattle.paper.specs.Words.{part}
 use Rattle.places.specs.Frames.{placeFrame}
 use Rattle.rebuilt.proofs.InnerLaws.{pieces-none, element-whole, element-fits, elements-behind, element-pieces}
 use Rattle.rebuilt.specs.Rebuilt.{piecesIn}
+use Rattle.noting.proofs.FrontLaws.{one-further}
 use Rattle.noting.specs.Adding.{SomeElements}
 use Rattle.noting.specs.Notes.{piecePlaces, Spotted}
 
@@ -25,17 +22,9 @@ spotted-next spots places n spot seen room =
     record {
       size = ap (λ (k : ℕ). k + 1) (seen .size) ∙ sym (length-append spots (spot ∷ []));
       room = rw (length-set places n spot) (omega arith);
-      each = λ k h. go k h (eqb k n) refl;
+      each = one-further (λ k. getD (set places n spot) k 0) spots spot (sym (seen .size))
+          (λ k h. getD-set-other places n k spot 0 (λ e. omega arith) ∙ seen .each k h) (getD-set-same places n spot 0 room);
     }
-  where
-    go : (k : ℕ) → k < n + 1 → (b : Bool) → eqb k n ≡ b → getD (set places n spot) k 0 ≡ getD (spots ++ (spot ∷ [])) k 0
-    go k h true e =
-        let same : k ≡ n = eqb-true k n e in
-        rw same (getD-set-same places n spot 0 room ∙ sym (getD-at spots spot [] 0 n (sym (seen .size))))
-    go k h false e =
-        let other = eqb-false k n e in
-        let inside : k < n = omega arith in
-        getD-set-other places n k spot 0 other ∙ seen .each k inside ∙ sym (List·getD-append spots (spot ∷ []) 0 k (rw (← seen .size) inside))
 
 pub piece-size : (body : List ℕ) (place end : ℕ) → place + 3 ≤ end → end ≤ length body → place + 3 + length (part body (place + 3) end) ≡ end
 piece-size body place end h k = rw (length-take, length-drop) (omega arith)

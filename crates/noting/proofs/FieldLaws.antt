@@ -1,32 +1,31 @@
 -- An object's members noted: what is left of its places and of its leftover's members is merged behind what stands there.
-use mathlib.Core.Bool.{true}
-use mathlib.Core.List.{List, [], _∷_, _++_, append-assoc, append-nil}
+use mathlib.Core.List.{List, [], _∷_, _++_, append-assoc}
 use mathlib.Core.Path.{_≡_, refl, sym, ap, _∙_}
-use Prim.Native.Nat.{ℕ, _+_, _-_, _*_, _≤_, _<_}
+use Prim.Native.Nat.{ℕ, _+_, _-_, _*_, _^_, _≤_, _<_}
 use native.Mathlib.Omega.{arith}
-use lib.ListN.{length, getD, take, drop, length-take, length-drop}
+use lib.ListN.{length, getD, drop, length-take, length-drop}
+use mir.Syntax.{w64}
+use mir.Val.{Fits}
 use Rattle.dictionary.specs.declared.ids.InputId.{InputId}
-use Rattle.fields.specs.Telling.{lookedAt}
-use Rattle.frames.specs.Frames.{pieceIn}
-use Rattle.frames.specs.declared.Frame.the-variants.{Ends}
+use Rattle.fields.specs.Telling.{entryPlace, lookedAt}
+use Rattle.frames.specs.declared.Frame.the-variants.{Ends, Cut}
 use Rattle.frames.specs.declared.Frame.{Frame}
-use Rattle.lookup.specs.declared.Looked.the-variants.{At}
+use Rattle.lookup.specs.declared.Looked.the-variants.{At, Nowhere}
 use Rattle.lookup.specs.declared.Looked.{Looked}
 use Rattle.paper.specs.Bounds.{mostWalked}
-use Rattle.paper.specs.Framing.{Piece}
-use Rattle.paper.specs.Schemas.{SchemaFields, noColumns, named}
-use Rattle.paper.specs.Words.{part, numbers, allBelow}
+use Rattle.paper.specs.Schemas.{SchemaFields, named}
+use Rattle.paper.specs.Words.{part, numbers}
 use Rattle.places.specs.Frames.{placeFrame}
 use Rattle.rebuilt.specs.Rebuilt.{piecesIn}
 use Rattle.schemas.specs.Frames.{frameEnd}
 use Rattle.schemas.specs.Positions.{FieldsStand}
 use Rattle.containers.proofs.WalkLaws.{below-more}
-use Rattle.rebuilt.proofs.InnerLaws.{member-fits, members-behind, member-pieces, member-named}
+use Rattle.rebuilt.proofs.InnerLaws.{member-has, member-frame-in, member-entry, member-whole, member-known, member-fits, members-behind, member-pieces, member-named}
 use Rattle.schemas.proofs.FieldsStandLaws.{FirstField, first-field, no-field}
 use Rattle.noting.proofs.AddedLaws.{none-added, added-behind, all-added}
 use Rattle.noting.proofs.ElementLaws.{piece-size}
 use Rattle.noting.proofs.LowLaws.{low-all, merged-first, merged-none}
-use Rattle.noting.specs.Adding.{SomeMembers, RunRanked, runNotes, NoteRoom, Added, LeftAdded, FieldAdded, lowNotes, highNotes}
+use Rattle.noting.specs.Adding.{SomeMembers, RunRanked, NoteRoom, Added, LeftAdded, FieldAdded, lowNotes}
 use Rattle.noting.specs.Notes.{Note, noteRank, addNote, fieldNotes, Noted, memberNotes}
 
 -- ---- a field's note
@@ -85,6 +84,11 @@ run-ranked {ranks} {id = id} {count} {body} all =
 
 module _ {ranks schema table : List ℕ} {from to : ℕ} {left-ids : List ℕ} {lefts : List Note} {count : ℕ} {body places₀ ids₀ places ids : List ℕ} {n left field place : ℕ}
     (seen : MembersSeen ranks schema table from to left-ids lefts count body places₀ ids₀ places ids n left field place) where
+  -- what was noted, so many that they are counted
+  pub count-fits : {next : ℕ} → left ≤ next → next ≤ count → 2 * count + length body ≤ length places₀ → length places₀ < 2 ^ 64
+      → Fits w64 (n + (next - left)) × Fits w64 (n + (next - left) + 1)
+  count-fits forward within room small = (record { fits = omega (arith, seen .few, seen .within) }, record { fits = omega (arith, seen .few, seen .within) })
+
   -- no field is left
   module _ (over : to ≤ field) where
     pub last-room : 2 * count + length body ≤ length places₀ → 2 * count + length body ≤ length ids₀ → NoteRoom places ids (n + (count - left))
@@ -107,62 +111,31 @@ module _ {ranks schema table : List ℕ} {from to : ℕ} {left-ids : List ℕ} {
         ∙ ap (λ (l : List Note). seen .past ++ l) (merged-none ranks (drop left lefts) ∙ sym (low-all ranks bound high (drop left lefts))) in
         rw all (all-added (added-behind (seen .added) (lower .added)))
 
-  module _ (some-left : field < to) {r : Frame} (told : r ≡ placeFrame body place) {end : ℕ} (e : r ≡ Ends end) {behind : ℕ} (ends : behind ≡ frameEnd schema field) where
+  -- the field here: its frame, its entry, and its place
+  module _ (some-left : field < to) where
+    pub place-there : place < length body
+    place-there = member-has body place (seen .still .there) some-left
+
+    pub field-frame : frameEnd schema field ≤ length schema
+    field-frame = member-frame-in body place (seen .still .there) some-left
+
+    pub field-entry : entryPlace field < length table
+    field-entry = member-entry body place (seen .still .there) some-left
+
+    pub place-whole : {r : Frame} → r ≡ placeFrame body place → r ≡ Cut → ⊥
+    place-whole told e = member-whole body place (seen .still .there) some-left told e
+
+    pub field-known : {r : Frame} → r ≡ placeFrame body place → {end : ℕ} → r ≡ Ends end → place + 3 < end → {looked : Looked} → looked ≡ lookedAt table field → looked ≡ Nowhere → ⊥
+    field-known told e present is nowhere = member-known body place (seen .still .there) some-left told e present is nowhere
+
+  module _ (some-left : field < to) {r : Frame} (told : r ≡ placeFrame body place) {end : ℕ} (e : r ≡ Ends end) where
     fits : (place + 3 ≤ end) × (end ≤ length body)
     fits = member-fits body place (seen .still .there) some-left told e
-
-    still-behind : SomeMembers ranks schema table behind to left-ids (drop end body)
-    still-behind =
-        record {
-          levels = seen .still .levels;
-          names = seen .still .names;
-          there = members-behind body place (seen .still .there) some-left told e behind ends;
-          few = seen .still .few;
-          ranked = seen .still .ranked;
-          known = seen .still .known;
-        }
 
     body-size : length (part body (place + 3) end) ≡ end - (place + 3)
     body-size = let in-body = fits in rw (length-take, length-drop) (omega arith)
 
-    -- the fields that are left, whatever they are
-    module _ {columns : SchemaFields} {levels : ℕ} (stand : FieldsStand levels schema from to columns) where
-      abbrev first : FirstField levels schema field to (seen .further columns levels stand .more)
-      first = first-field (seen .further columns levels stand .stand) some-left
-
-      fields-next : fieldNotes (seen .further columns levels stand .more) schema table field place (piecesIn (drop place body))
-          ≡ addNote (part body (place + 3) end) (lookedAt table field) place field (fieldNotes (first .more) schema table behind end (piecesIn (drop end body)))
-      unfolding fieldNotes
-      fields-next =
-          let size : place + 3 + length (part body (place + 3) end) ≡ end = piece-size body place end (fits .0) (fits .1) in
-          ap (λ (c : SchemaFields). fieldNotes c schema table field place (piecesIn (drop place body))) (first .are)
-          ∙ ap (fieldNotes (named (first .name) (first .node) (first .more)) schema table field place) (member-pieces body place (seen .still .there) some-left told e)
-          ∙ rw (ends, size)
-
-      behind-stand : FieldsStand levels schema behind to (first .more)
-      behind-stand = rw ends (first .stands .behind)
-
-    -- the field is not there
-    pub members-absent : end ≤ place + 3 → MembersSeen ranks schema table from to left-ids lefts count body places₀ ids₀ places ids n left behind end
-    members-absent none =
-        record {
-          within = fits .1;
-          few = omega (arith, seen .few, fits .0);
-          left-in = seen .left-in;
-          still = still-behind;
-          past = seen .past;
-          added = seen .added;
-          further = λ columns levels stand.
-              record {
-                more = first stand .more;
-                stand = behind-stand stand;
-                whole-is = seen .further columns levels stand .whole-is
-                    ∙ ap (λ (l : List Note). seen .past ++ memberNotes ranks l (drop left lefts))
-                    (fields-next stand ∙ add-none (part body (place + 3) end) (let size = body-size in omega arith) (lookedAt table field) place field (fieldNotes (first stand .more) schema table behind end (piecesIn (drop end body))));
-              };
-        }
-
-    -- it is there
+    -- a field that is present has an id, and there is room for it
     module _ (present : place + 3 < end) where
       pub member-room : 2 * count + length body ≤ length places₀ → 2 * count + length body ≤ length ids₀ → NoteRoom places ids (n + (count - left) + 1)
       member-room enough also =
@@ -172,38 +145,85 @@ module _ {ranks schema table : List ℕ} {from to : ℕ} {left-ids : List ℕ} {
             ids-room = omega (arith, added .ids-size, seen .few, fits .1, seen .left-in);
           }
 
-      module _ {looked : Looked} (is : looked ≡ lookedAt table field) {found : InputId} (at : looked ≡ At found) where
-        found-known : found .0 < length (seen .still .names)
-        found-known =
-            let known = member-named body place (seen .still .there) some-left told e present in
-            let same : found ≡ known .id = (let looked-is = known .looked-is in cc) in
-            rw same (known .below)
+      pub found-there : {looked : Looked} → looked ≡ lookedAt table field → {found : InputId} → looked ≡ At found → (found .0 < length ranks) × (found .0 < mostWalked)
+      found-there is {found} at =
+          let known = member-named body place (seen .still .there) some-left told e present in
+          let same : found ≡ known .id = (let looked-is = known .looked-is in cc) in
+          let below : found .0 < length (seen .still .names) = rw same (known .below) in
+          (omega (arith, seen .still .ranked), omega (arith, seen .still .few))
 
-        pub found-ranked : found .0 < length ranks
-        found-ranked = omega (arith, found-known, seen .still .ranked)
+    -- behind its frame and its place
+    module _ {behind : ℕ} (ends : behind ≡ frameEnd schema field) where
+      still-behind : SomeMembers ranks schema table behind to left-ids (drop end body)
+      still-behind =
+          record {
+            levels = seen .still .levels;
+            names = seen .still .names;
+            there = members-behind body place (seen .still .there) some-left told e behind ends;
+            few = seen .still .few;
+            ranked = seen .still .ranked;
+            known = seen .still .known;
+          }
 
-        pub found-low : found .0 < mostWalked
-        found-low = omega (arith, found-known, seen .still .few)
+      -- the fields that are left, whatever they are
+      module _ {columns : SchemaFields} {levels : ℕ} (stand : FieldsStand levels schema from to columns) where
+        abbrev first : FirstField levels schema field to (seen .further columns levels stand .more)
+        first = first-field (seen .further columns levels stand .stand) some-left
 
-        pub members-present : {places-after ids-after : List ℕ} {next : ℕ}
-            → FieldAdded ranks lefts (record { id = found .0; place = place; field = field }) left count places ids n places-after ids-after next
-            → MembersSeen ranks schema table from to left-ids lefts count body places₀ ids₀ places-after ids-after (n + (next - left) + 1) next behind end
-        members-present {next = next} one =
-            let member : Note = record { id = found .0; place = place; field = field } in
-            let low : List Note = lowNotes ranks (noteRank ranks member) (drop left lefts) in
-            let step : (columns : SchemaFields) (levels : ℕ) (stand : FieldsStand levels schema from to columns)
-            → memberNotes ranks (fieldNotes columns schema table from 0 (piecesIn body)) lefts
-            ≡ (seen .past ++ (low ++ (member ∷ []))) ++ memberNotes ranks (fieldNotes (first stand .more) schema table behind end (piecesIn (drop end body))) (drop next lefts) =
-            λ columns levels stand.
-            let typed : List Note = fieldNotes (first stand .more) schema table behind end (piecesIn (drop end body)) in
-            let here : fieldNotes (seen .further columns levels stand .more) schema table field place (piecesIn (drop place body)) ≡ member ∷ typed =
-            fields-next stand ∙ add-some (part body (place + 3) end) (let size = body-size in omega arith) (sym is ∙ at) place field typed in
-            seen .further columns levels stand .whole-is
-            ∙ ap (λ (l : List Note). seen .past ++ memberNotes ranks l (drop left lefts)) here
-            ∙ ap (λ (l : List Note). seen .past ++ l) (merged-first ranks member typed (drop left lefts))
-            ∙ ap (λ (l : List Note). seen .past ++ (low ++ (member ∷ memberNotes ranks typed l))) (sym (one .left))
-            ∙ ap (λ (l : List Note). seen .past ++ l) (sym (append-assoc low (member ∷ []) (memberNotes ranks typed (drop next lefts))))
-            ∙ sym (append-assoc (seen .past) (low ++ (member ∷ [])) (memberNotes ranks typed (drop next lefts))) in
+        abbrev typed : List Note
+        typed = fieldNotes (first .more) schema table behind end (piecesIn (drop end body))
+
+        fields-next : fieldNotes (seen .further columns levels stand .more) schema table field place (piecesIn (drop place body))
+            ≡ addNote (part body (place + 3) end) (lookedAt table field) place field typed
+        unfolding fieldNotes
+        fields-next =
+            let size : place + 3 + length (part body (place + 3) end) ≡ end = piece-size body place end (fits .0) (fits .1) in
+            ap (λ (c : SchemaFields). fieldNotes c schema table field place (piecesIn (drop place body))) (first .are)
+            ∙ ap (fieldNotes (named (first .name) (first .node) (first .more)) schema table field place) (member-pieces body place (seen .still .there) some-left told e)
+            ∙ rw (ends, size)
+
+        -- behind what was noted and what is noted now
+        left-behind : {past : List Note} {next : ℕ}
+            → memberNotes ranks (fieldNotes columns schema table from 0 (piecesIn body)) lefts ≡ past ++ memberNotes ranks typed (drop next lefts)
+            → ColumnsLeft ranks schema table from to lefts body past next behind end levels columns
+        left-behind whole = record { more = first .more; stand = rw ends (first .stands .behind); whole-is = whole }
+
+      pub members-absent : end ≤ place + 3 → MembersSeen ranks schema table from to left-ids lefts count body places₀ ids₀ places ids n left behind end
+      members-absent none =
+          let size : length (part body (place + 3) end) ≡ 0 = (let all = body-size in omega arith) in
+          record {
+            within = fits .1;
+            few = omega (arith, seen .few, fits .0);
+            left-in = seen .left-in;
+            still = still-behind;
+            past = seen .past;
+            added = seen .added;
+            further = λ columns levels stand.
+                left-behind stand
+                (seen .further columns levels stand .whole-is
+                ∙ ap (λ (l : List Note). seen .past ++ memberNotes ranks l (drop left lefts)) (fields-next stand ∙ add-none (part body (place + 3) end) size (lookedAt table field) place field (typed stand)));
+          }
+
+      module _ (present : place + 3 < end) {looked : Looked} (is : looked ≡ lookedAt table field) {found : InputId} (at : looked ≡ At found)
+          {places-after ids-after : List ℕ} {next : ℕ} (one : FieldAdded ranks lefts (record { id = found .0; place = place; field = field }) left count places ids n places-after ids-after next) where
+        abbrev member : Note
+        member = record { id = found .0; place = place; field = field }
+
+        abbrev low : List Note
+        low = lowNotes ranks (noteRank ranks member) (drop left lefts)
+
+        merged-next : {columns : SchemaFields} {levels : ℕ} (stand : FieldsStand levels schema from to columns)
+            → memberNotes ranks (fieldNotes (seen .further columns levels stand .more) schema table field place (piecesIn (drop place body))) (drop left lefts)
+            ≡ (low ++ (member ∷ [])) ++ memberNotes ranks (typed stand) (drop next lefts)
+        merged-next stand =
+            let size : 0 < length (part body (place + 3) end) = (let all = body-size in omega arith) in
+            ap (λ (l : List Note). memberNotes ranks l (drop left lefts)) (fields-next stand ∙ add-some (part body (place + 3) end) size (sym is ∙ at) place field (typed stand))
+            ∙ merged-first ranks member (typed stand) (drop left lefts)
+            ∙ ap (λ (l : List Note). low ++ (member ∷ memberNotes ranks (typed stand) l)) (sym (one .left))
+            ∙ sym (append-assoc low (member ∷ []) (memberNotes ranks (typed stand) (drop next lefts)))
+
+        pub members-present : MembersSeen ranks schema table from to left-ids lefts count body places₀ ids₀ places-after ids-after (n + (next - left) + 1) next behind end
+        members-present =
             record {
               within = fits .1;
               few = omega (arith, seen .few, one .forward);
@@ -211,5 +231,8 @@ module _ {ranks schema table : List ℕ} {from to : ℕ} {left-ids : List ℕ} {
               still = still-behind;
               past = seen .past ++ (low ++ (member ∷ []));
               added = added-behind (seen .added) (one .added);
-              further = λ columns levels stand. record { more = first stand .more; stand = behind-stand stand; whole-is = step columns levels stand };
+              further = λ columns levels stand.
+                  left-behind stand
+                  (seen .further columns levels stand .whole-is ∙ ap (λ (l : List Note). seen .past ++ l) (merged-next stand)
+                  ∙ sym (append-assoc (seen .past) (low ++ (member ∷ [])) (memberNotes ranks (typed stand) (drop next lefts))));
             }

@@ -1,11 +1,14 @@
--- Numbers of one width that stand one after another: those in front of one that is written stay, and it is the next of them.
+-- One more behind some: a number of one width written behind others is the next of them, and an entry of a table is.
+use mathlib.Core.Bool.{Bool, true, false}
 use mathlib.Core.List.{List, [], _∷_, _++_}
 use mathlib.Core.Path.{_≡_, refl, sym, ap, _∙_}
 use Prim.Native.Nat.{ℕ, zero, suc, _+_, _*_, _≤_, _<_}
 use native.Mathlib.Nat.{zero-mul, suc-mul, add-comm}
 use native.Mathlib.Omega.{arith}
-use lib.ListN.{length, take, drop, length-append, length-drop, take-append-drop}
-use lib.Seq.{take-append-le, drop-append-le, length-take-le, take-at, drop-at}
+use borrow.Author.Tests.{eqb-true, eqb-false}
+use lib.Dec.{eqb}
+use lib.ListN.{length, getD, List·getD-append, take, drop, length-append, length-drop, take-append-drop}
+use lib.Seq.{take-append-le, drop-append-le, length-take-le, take-at, drop-at, getD-at}
 use Rattle.numbers.specs.Little.{number, numberAt, putAt}
 use Rattle.paper.specs.Words.{numbers}
 use Rattle.dictionary.proofs.NumbersRunLaws.{run-step, number-drop}
@@ -16,7 +19,7 @@ first-same : (width : ℕ) (s t : List ℕ) → width ≤ length s → numberAt 
 unfolding numberAt
 first-same width s t there = ap number (take-append-le width s t there)
 
-front-same : (width n : ℕ) (s t : List ℕ) → 1 ≤ width → n * width ≤ length s → numbers width n (s ++ t) ≡ numbers width n s
+pub front-same : (width n : ℕ) (s t : List ℕ) → 1 ≤ width → n * width ≤ length s → numbers width n (s ++ t) ≡ numbers width n s
 unfolding numbers
 front-same width zero s t least there = refl
 front-same width (suc n) s t least there =
@@ -63,3 +66,17 @@ module _ (width n : ℕ) (s new : List ℕ) (least : 1 ≤ width) (long : length
 
   pub numbers-put : numbers width (suc n) (putAt s (n * width) new) ≡ numbers width n s ++ (number new ∷ [])
   numbers-put = one-more width n (putAt s (n * width) new) least (rw (length-put s (n * width) new room) there) ∙ rw (put-front, put-here)
+
+-- ---- entries
+
+-- Entries that follow some values, and one value more.
+pub one-further : (entry : ℕ → ℕ) (values : List ℕ) (value : ℕ) {n : ℕ} → length values ≡ n → ((k : ℕ) → k < n → entry k ≡ getD values k 0) → entry n ≡ value
+    → (k : ℕ) → k < n + 1 → entry k ≡ getD (values ++ (value ∷ [])) k 0
+one-further entry values value {n} size each last k h = go (eqb k n) refl
+  where
+    go : (b : Bool) → eqb k n ≡ b → entry k ≡ getD (values ++ (value ∷ [])) k 0
+    go true e = let same : k ≡ n = eqb-true k n e in rw same (last ∙ sym (getD-at values value [] 0 n size))
+    go false e =
+        let other = eqb-false k n e in
+        let inside : k < n = omega arith in
+        each k inside ∙ sym (List·getD-append values (value ∷ []) 0 k (rw size inside))

@@ -8,14 +8,12 @@ use lib.ListN.{length, getD, drop}
 use mir.Syntax.{w64}
 use mir.Val.{Fits}
 use Rattle.numbers.specs.Little.{numberAt}
-use Rattle.paper.specs.Bounds.{mostWalked}
-use Rattle.paper.specs.Limits.{mostRow}
 use Rattle.paper.specs.Words.{numbers, allBelow}
 use Rattle.containers.proofs.RunLaws.{Standing, standing-there, run-next, run-here, run-ended}
 use Rattle.dictionary.proofs.NumbersRunLaws.{run-length, below-at}
 use Rattle.noting.proofs.AddedLaws.{none-added, added-behind}
 use Rattle.noting.proofs.LowLaws.{low-more, high-more, low-over, high-over, low-none, high-none, left-drop}
-use Rattle.noting.specs.Adding.{LeftRun, RunRanked, runNotes, NoteRoom, Added, LeftAdded, lowNotes, highNotes}
+use Rattle.noting.specs.Adding.{LeftRun, runNotes, NoteRoom, Added, LeftAdded, lowNotes, highNotes}
 use Rattle.noting.specs.Notes.{Note, noteRank, leftNotes}
 
 -- ---- the number here

@@ -1,9 +1,9 @@
 -- A typed member noted behind the lower ones of a leftover: it stands where the merge puts it.
-use mathlib.Core.List.{List, [], _∷_, _++_}
-use mathlib.Core.Path.{_≡_, refl, sym, ap, _∙_}
-use Prim.Native.Nat.{ℕ, _+_, _-_, _*_, _≤_, _<_}
+use mathlib.Core.List.{List, [], _∷_}
+use mathlib.Core.Path.{_≡_, ap, _∙_}
+use Prim.Native.Nat.{ℕ, _+_, _-_, _≤_}
 use native.Mathlib.Omega.{arith}
-use lib.ListN.{length, getD, drop}
+use lib.ListN.{getD, drop}
 use Rattle.noting.proofs.AddedLaws.{added-behind}
 use Rattle.noting.specs.Adding.{NoteRoom, Added, LeftAdded, FieldAdded, highNotes}
 use Rattle.noting.specs.Notes.{Note, noteRank}

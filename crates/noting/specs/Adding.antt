@@ -2,7 +2,7 @@
 use mathlib.Core.Bool.{true, cond}
 use mathlib.Core.List.{List, [], _∷_, _++_}
 use mathlib.Core.Path.{_≡_}
-use Prim.Native.Nat.{ℕ, _+_, _-_, _*_, _≤_, _<_}
+use Prim.Native.Nat.{ℕ, _+_, _-_, _*_, _≤_}
 use lib.Dec.{ltb}
 use lib.ListN.{length, drop}
 use Rattle.paper.specs.Bounds.{mostNames, mostWalked}

@@ -2,6 +2,8 @@
 // places can be walked only forwards, and a value is written from its end.
 mod elements;
 mod members;
+mod spots;
 
 pub use elements::note_elements;
 pub use members::note_fields;
+pub use spots::spot;

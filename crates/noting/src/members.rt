@@ -1,6 +1,5 @@
 // An object's members, its places and its leftover's members merged by their normal ids.
 ghost use mathlib.Core.List.{[], _∷_};
-ghost use mathlib.Core.Path.{_≡_};
 ghost use Prim.Native.Nat.{ℕ, _+_, _-_, _*_, _≤_, _<_};
 ghost use lib.ListN.{length};
 ghost use Rattle.paper.specs.Bounds.{mostWalked};
@@ -84,7 +83,17 @@ fn note_field(
 {
     let normal = normal_of(ranks, found);
     let next = note_left(
-        ranks, lefts, id, starts, width, from, count, normal.0, places, ids, n,
+        ranks,
+        lefts,
+        id,
+        starts,
+        width,
+        from,
+        count,
+        normal.0,
+        places,
+        ids,
+        n,
     );
     note(places, ids, n + (next - from), found, place, field);
     next
@@ -125,7 +134,19 @@ pub fn note_fields(
                 return n;
             };
             let next = note_field(
-                ranks, lefts, id, starts, width, left, count, found, at, field, places, ids, n,
+                ranks,
+                lefts,
+                id,
+                starts,
+                width,
+                left,
+                count,
+                found,
+                at,
+                field,
+                places,
+                ids,
+                n,
             );
             n = n + (next - left) + 1;
             left = next;
@@ -134,7 +155,17 @@ pub fn note_fields(
         field = behind;
     }
     let last = note_left(
-        ranks, lefts, id, starts, width, left, count, 65536, places, ids, n,
+        ranks,
+        lefts,
+        id,
+        starts,
+        width,
+        left,
+        count,
+        65536,
+        places,
+        ids,
+        n,
     );
     n + (last - left)
 }

@@ -105,6 +105,10 @@ pub record NamedBy (names : Dictionary) (name : List ℕ) (looked : Looked) : Ty
   pub below : id .0 < length names
   pub is : getD names (id .0) [] ≡ name
 
+told-below : {names : Dictionary} {name : List ℕ} {looked : Looked} → Tells names name looked → (id : InputId) → looked ≡ At id → id .0 < length names
+told-below {names} (found own below is) id e = let same : own .0 ≡ id .0 = cc in rw (← same) below
+told-below (missing none-has) id e = absurd (let z : _≡_ {A = ℕ} 0 1 = cc in omega arith)
+
 named-by : {names : Dictionary} {name : List ℕ} {looked : Looked} → Tells names name looked → among name names ≡ true → NamedBy names name looked
 named-by (found id below is) e = record { id = id; looked-is = refl; below = below; is = is }
 named-by (missing none-has) e = never (sym e ∙ none-has)
@@ -150,6 +154,10 @@ module _ {levels : ℕ} {names : Dictionary} {schema table : List ℕ} {field to
 
     pub member-entry : entryPlace field < length table
     member-entry = field-in-table (member-first .stands) table (there .tabled)
+
+    -- the field's id, whether it is present or not
+    pub member-below : (id : InputId) → lookedAt table field ≡ At id → id .0 < length names
+    member-below = told-below (member-told .here)
 
     module _ {r : Frame} (told : r ≡ placeFrame body place) where
       pub member-whole : r ≡ Cut → ⊥
