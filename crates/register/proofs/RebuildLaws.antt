@@ -2,7 +2,7 @@
 -- the lengths have room in a word.
 use mathlib.Core.Bool.{Bool, true, false, not}
 use mathlib.Core.List.{List}
-use mathlib.Core.Option.{Option, some}
+use mathlib.Core.Option.{some}
 use mathlib.Core.Path.{_≡_, refl, sym, ap, _∙_}
 use Prim.Native.Nat.{ℕ, _/_, _≤_, _<_}
 use native.Mathlib.Omega.{arith}
@@ -14,7 +14,7 @@ use Rattle.paper.specs.Limits.{mostMetadata, mostSchema, mostRow, mostValue}
 use Rattle.paper.specs.Meaning.{Doc}
 use Rattle.paper.specs.Normal as normal
 use Rattle.paper.specs.Normal.{normalForm}
-use Rattle.paper.specs.Operations.{written, writable, documentAnswer, rebuildOutcome}
+use Rattle.paper.specs.Operations.{written, writable, rebuildOutcome}
 use Rattle.paper.specs.Rebuilding.{rowMeaning}
 use Rattle.paper.specs.Refusals.{Outcome, refused, reached, require}
 use Rattle.paper.specs.Rows.{Row, rowOf}
@@ -22,9 +22,9 @@ use Rattle.paper.specs.Schemas.{Schema, schemaOf}
 use Rattle.paper.specs.Words.{isThere}
 use Rattle.paper.specs.declared.DocumentAnswer.the-variants.{Refused}
 use Rattle.paper.specs.declared.DocumentAnswer.{DocumentAnswer}
-use Rattle.paper.specs.declared.Refusal.the-variants.{TooLong, BadSchema, BadRow, BrokenRule}
+use Rattle.paper.specs.declared.Refusal.the-variants.{TooLong, BadSchema, BadRow, BrokenRule, TooLarge}
 use Rattle.paper.specs.declared.Refusal.{Refusal}
-use Rattle.paper.proofs.WordLaws.{never, there-some}
+use Rattle.paper.proofs.WordLaws.{there-some}
 use Rattle.rebuild.proofs.MeaningLaws.{row-means}
 use Rattle.rebuild.proofs.NumberedLaws.{metadata-fits}
 use Rattle.rebuild.specs.Rebuilding.{Judged}
@@ -46,7 +46,7 @@ written-fits : (d : Doc) → length (normalForm d .metadata) ≤ mostMetadata �
 unfolding written writable require
 written-fits d short n e = go (leb (length (normalForm d .value)) mostValue) refl e
   where
-    go : (b : Bool) → leb (length (normalForm d .value)) mostValue ≡ b → require b _ (reached (normalForm d)) ≡ reached n → Fitting n
+    go : (b : Bool) → leb (length (normalForm d .value)) mostValue ≡ b → require b TooLarge (reached (normalForm d)) ≡ reached n → Fitting n
     go true f g =
         let same : normalForm d ≡ n = cc in
         rw (← same) (record { metadata-fits = short; value-fits = leb-true (length (normalForm d .value)) mostValue f })
