@@ -1,4 +1,4 @@
-// The ids of a place and of all that is inside it. The four walkers call each other, the levels left and the bytes left
+// The ids of a place and of all that is inside it. The five walkers call each other, the levels left and the bytes left
 // falling.
 ghost use mathlib.Core.Path.{_≡_};
 ghost use lib.ListN.{length};
@@ -9,6 +9,7 @@ ghost use Rattle.rebuilt.specs.Rebuilt.{piecesIn};
 ghost use Rattle.rebuilt.specs.Using.{placeIds, memberIds, elementIds, typedIds};
 ghost use Rattle.schemas.specs.Positions.{Stands, FieldsStand};
 ghost use Rattle.gathering.specs.Gathering.{PlaceReady, TypedReady, ElementsReady, MembersReady};
+use crate::plain::plain;
 use crate::present::mark_field;
 use frames::Frame;
 use marking::mark;
@@ -95,6 +96,25 @@ fn typed(
     }
 }
 
+// A place inside another: most of them are plain.
+fn held(
+    levels: usize,
+    readings: &[u8],
+    schema: &[u8],
+    table: &[u16],
+    node: usize,
+    body: &[u8],
+    used: &mut [u8],
+)
+    requires { ⌜ Readings (now readings) × PlaceReady levels (now schema) (now table) node (now body) (length (now used)) ⌝ }
+    ensures { λ _. ⌜ ((under : Schema) → Stands levels (now (schema .entry)) node under → now (used .exit) ≡ markIds (now (used .entry)) (placeIds under levels (now (schema .entry)) (now (table .entry)) node (now (body .entry)))) ⌝ }
+{
+    if plain(schema, node, body) {
+        return;
+    }
+    place(levels, readings, schema, table, node, body, used);
+}
+
 // A list's places, each under the element node.
 fn list_places(
     levels: usize,
@@ -114,7 +134,7 @@ fn list_places(
             return;
         };
         let inner = at + 3;
-        place(
+        held(
             levels,
             readings,
             schema,
@@ -148,10 +168,10 @@ fn object_places(
             return;
         };
         let inner = at + 3;
-        let held = &body[inner..end];
+        let inside = &body[inner..end];
         let node = schemas::field_node(schema, field);
-        mark_field(table, field, held, used);
-        place(levels, readings, schema, table, node, held, used);
+        mark_field(table, field, inside, used);
+        held(levels, readings, schema, table, node, inside, used);
         at = end;
         field = schemas::frame_end(schema, field);
     }

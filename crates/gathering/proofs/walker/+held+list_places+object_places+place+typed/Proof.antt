@@ -1,5 +1,6 @@
--- `place`, `typed`, `list_places` and `object_places`: a place is marked by its parts, what is typed in it by the kind of its
--- node, and inner places one after another. A call takes a level, or keeps it and goes from a walker to `place` to `typed`.
+-- `held`, `place`, `typed`, `list_places` and `object_places`: a place is marked by its parts, what is typed in it by the kind of
+-- its node, and inner places one after another, plain ones at once. A call takes a level, or keeps it and goes from a walker to
+-- `held` to `place` to `typed`.
 use Prim.Native.Nat.{ℕ, _+_, _-_, _*_}
 use mathlib.Core.Path.{refl}
 use native.Mathlib.Omega.{arith}
@@ -10,19 +11,24 @@ use Rattle.numbers.proofs.Cycle.{given-at, asked-below}
 use Rattle.places.proofs.PlaceLaws.{one-long, typed-long, both-long}
 use Rattle.rebuilt.proofs.ThereLaws.{typed-kind, typed-level, typed-frame}
 use Rattle.gathering.proofs.PlaceLaws.{left-begins, left-ends, behind-begins, leftover-asks, typed-asks, beside-asks, behind-asks, empty-marked, unframed-marked, leftover-marked, only-marked, both-marked, elements-asks, members-asks, none-marked, cell-marked, elements-marked, members-marked}
+use Rattle.gathering.proofs.PlainLaws.{held-node-in, plain-marked}
 use Rattle.gathering.proofs.WalkLaws.{ListSeen, list-start, list-done, list-whole, list-inner, list-end, list-asks, list-next, FieldsSeen, fields-start, fields-done, field-has, field-node-in, field-frame-in, field-whole, field-inner, field-end, field-asks, field-inside, fields-next}
+use Rattle.gathering.proofs.walker.held.Reads as held
+use Rattle.gathering.proofs.walker.held.Kinds as held-kinds
+use Rattle.gathering.proofs.walker.+held+list_places+object_places+place+typed.Lts-held as held-lts
 use Rattle.gathering.proofs.walker.list_places.Reads as list-places
 use Rattle.gathering.proofs.walker.list_places.Kinds as list-places-kinds
-use Rattle.gathering.proofs.walker.+list_places+object_places+place+typed.Lts-list_places as list-places-lts
+use Rattle.gathering.proofs.walker.+held+list_places+object_places+place+typed.Lts-list_places as list-places-lts
 use Rattle.gathering.proofs.walker.object_places.Reads as object-places
 use Rattle.gathering.proofs.walker.object_places.Kinds as object-places-kinds
-use Rattle.gathering.proofs.walker.+list_places+object_places+place+typed.Lts-object_places as object-places-lts
+use Rattle.gathering.proofs.walker.+held+list_places+object_places+place+typed.Lts-object_places as object-places-lts
 use Rattle.gathering.proofs.walker.place.Reads as place
 use Rattle.gathering.proofs.walker.place.Kinds as place-kinds
-use Rattle.gathering.proofs.walker.+list_places+object_places+place+typed.Lts-place as place-lts
+use Rattle.gathering.proofs.walker.+held+list_places+object_places+place+typed.Lts-place as place-lts
 use Rattle.gathering.proofs.walker.typed.Reads as typed
 use Rattle.gathering.proofs.walker.typed.Kinds as typed-kinds
-use Rattle.gathering.proofs.walker.+list_places+object_places+place+typed.Lts-typed as typed-lts
+use Rattle.gathering.proofs.walker.+held+list_places+object_places+place+typed.Lts-typed as typed-lts
+use Rattle.gathering.proofs.plain.plain.Reads as plain-reads
 use Rattle.gathering.proofs.present.mark_field.Reads as mark-field-reads
 use Rattle.marking.proofs.mark.Reads as mark-reads
 use Rattle.places.proofs.place_frame.Reads as place-frame-reads
@@ -30,20 +36,23 @@ use Rattle.places.proofs.split.Reads as split-reads
 use Rattle.schemas.proofs.frame_end.Reads as frame-end-reads
 use Rattle.schemas.proofs.field_node.Reads as field-node-reads
 use Rattle.schemas.proofs.kind_at.Reads as kind-at-reads
-use Rattle.gathering.proofs.walker.+list_places+object_places+place+typed.{statement}
-use Rattle.gathering.proofs.walker.+list_places+object_places+place+typed.Tie.{close}
+use Rattle.gathering.proofs.walker.+held+list_places+object_places+place+typed.{statement}
+use Rattle.gathering.proofs.walker.+held+list_places+object_places+place+typed.Tie.{close}
+
+abbrev μ-held : Measures 5 held-kinds.ps ℕ
+μ-held κs a = 4 * a .0 + 2
 
 abbrev μ-list-places : Measures 5 list-places-kinds.ps ℕ
-μ-list-places κs a = 3 * a .0 + 2
+μ-list-places κs a = 4 * a .0 + 3
 
 abbrev μ-object-places : Measures 5 object-places-kinds.ps ℕ
-μ-object-places κs a = 3 * a .0 + 2
+μ-object-places κs a = 4 * a .0 + 3
 
 abbrev μ-place : Measures 5 place-kinds.ps ℕ
-μ-place κs a = 3 * a .0 + 1
+μ-place κs a = 4 * a .0 + 1
 
 abbrev μ-typed : Measures 5 typed-kinds.ps ℕ
-μ-typed κs a = 3 * a .0
+μ-typed κs a = 4 * a .0
 
 abbrev list-places-Inv-loop : list-places-lts.InvT-loop
 list-places-Inv-loop levels readings schema table node body used₀ at₀ used at = ListSeen levels schema table node body used₀ used at
@@ -57,17 +66,25 @@ object-places-Inv-loop levels readings schema table from to body used₀ field�
 abbrev object-places-μ-loop : object-places-lts.MeasureT-loop
 object-places-μ-loop levels readings schema table from to body used₀ field₀ at₀ used field at = to - field
 
-pub +list-places+object-places+place+typed-spec : {M : Type 1} → statement M
-+list-places+object-places+place+typed-spec = close μ-list-places μ-object-places μ-place μ-typed
+pub +held+list-places+object-places+place+typed-spec : {M : Type 1} → statement M
++held+list-places+object-places+place+typed-spec = close μ-held μ-list-places μ-object-places μ-place μ-typed
+    -- ---- `held`
+    (λ t. held-lts.spec
+    (plain-reads.Asked, plain-reads.Learnt, asked-below μ-place place.Pre t, place.Post)
+    (given-at μ-held held.Pre t) held.Post
+    (λ c κs. search (needs, held-node-in))
+    (λ c. search (needs, plain-marked))
+    -- the call of `place`, at the same levels
+    (λ c κs. search needs) (λ c. search needs) (λ c. search needs))
     -- ---- `list_places`
     (λ t. list-places-lts.spec
-    (place-frame-reads.Asked, place-frame-reads.Learnt, asked-below μ-place place.Pre t, place.Post)
+    (place-frame-reads.Asked, place-frame-reads.Learnt, asked-below μ-held held.Pre t, held.Post)
     (given-at μ-list-places list-places.Pre t) list-places.Post
     list-places-Inv-loop list-places-μ-loop
     (λ c. search (needs, list-start))
     (λ c κs. search needs) (λ c. search needs) (λ c. search needs) (λ c. search needs) (λ c. search (needs, list-whole))
     (λ c. search needs) (λ c. search (needs, list-inner)) (λ c. search (needs, list-inner)) (λ c. search (needs, list-end))
-    -- the call of `place` on an element, at the same levels
+    -- the call of `held` on an element, at the same levels
     (λ c κs. search (needs, list-asks))
     (λ c. let known = c .before .before .before .before .before .before in let frame = known .before .before in
     let has = frame .before .loop-test .taken in
@@ -76,7 +93,7 @@ pub +list-places+object-places+place+typed-spec : {M : Type 1} → statement M
     (λ c. search needs) (λ c. search (needs, list-done)))
     -- ---- `object_places`
     (λ t. object-places-lts.spec
-    (place-frame-reads.Asked, place-frame-reads.Learnt, field-node-reads.Asked, field-node-reads.Learnt, mark-field-reads.Asked, mark-field-reads.Learnt, asked-below μ-place place.Pre t, place.Post, frame-end-reads.Asked, frame-end-reads.Learnt)
+    (place-frame-reads.Asked, place-frame-reads.Learnt, field-node-reads.Asked, field-node-reads.Learnt, mark-field-reads.Asked, mark-field-reads.Learnt, asked-below μ-held held.Pre t, held.Post, frame-end-reads.Asked, frame-end-reads.Learnt)
     (given-at μ-object-places object-places.Pre t) object-places.Post
     object-places-Inv-loop object-places-μ-loop
     (λ c. search (needs, fields-start)) (λ c κs. search (needs, field-has))
@@ -85,7 +102,7 @@ pub +list-places+object-places+place+typed-spec : {M : Type 1} → statement M
     (λ c. search (needs, field-inner)) (λ c. search (needs, field-inner)) (λ c. search (needs, field-end))
     (λ c κs. search (needs, field-node-in))
     (λ c κs. let turn = c .before .before .before .before .before .before .before in field-asks (turn .before .loop .inv) (turn .loop-test .taken))
-    -- the call of `place` on a field, at the same levels, with the field's id marked
+    -- the call of `held` on a field, at the same levels, with the field's id marked
     (λ c κs. let known = c .before .before .before .before .before .before .before .before in let frame = known .before .before in
     let left = frame .before .loop-test .taken in
     let pre = c .before .before .before .before .before .before .before .before .before .before .before .before .before .before .before .before .before .before .pre in
@@ -95,7 +112,7 @@ pub +list-places+object-places+place+typed-spec : {M : Type 1} → statement M
     -- one field more
     (λ c. let known = c .before .before .before .before .before .before .before .before .before .before .before .before in let frame = known .before .before in
     let left = frame .before .loop-test .taken in
-    fields-next (frame .before .before .loop .inv) left (frame .place-frame .ensures) (known .end .given .1) _ (c .before .before .before .before .before .before .before .before .before .field-node .ensures) _ (c .before .before .before .before .before .before .before .mark-field .ensures) _ (c .before .before .before .place .ensures) _ (c .frame-end .ensures))
+    fields-next (frame .before .before .loop .inv) left (frame .place-frame .ensures) (known .end .given .1) _ (c .before .before .before .before .before .before .before .before .before .field-node .ensures) _ (c .before .before .before .before .before .before .before .mark-field .ensures) _ (c .before .before .before .held .ensures) _ (c .frame-end .ensures))
     (λ c. search needs) (λ c. search (needs, fields-done)))
     -- ---- `place`
     (λ t. place-lts.spec
