@@ -1,4 +1,5 @@
--- What gathering asks of bytes: they are lawful under a dictionary for whose names the table of marks has room.
+-- What gathering asks of bytes: they are lawful under a dictionary for whose names the table of marks has room. And what it
+-- tells of some places at once.
 use mathlib.Core.List.{List, []}
 use mathlib.Core.Path.{_≡_}
 use Prim.Native.Nat.{ℕ, _≤_}
