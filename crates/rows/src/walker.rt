@@ -156,9 +156,7 @@ fn held(
     if plainly_lawful(schema, node, body) {
         return Verdict::Lawful;
     }
-    place(
-        levels, readings, metadata, names, schema, table, node, body,
-    )
+    place(levels, readings, metadata, names, schema, table, node, body)
 }
 
 // A list's places, each under the element node.
