@@ -1,7 +1,7 @@
 -- The quick look at a place: an empty one is lawful, and so is one good cell alone under a column, by its frame and its node's tag.
-use mathlib.Core.Bool.{Bool, true, cond}
+use mathlib.Core.Bool.{Bool, true}
 use mathlib.Core.List.{List}
-use mathlib.Core.Path.{_≡_, refl, sym, ap, _∙_}
+use mathlib.Core.Path.{_≡_, refl, sym, _∙_}
 use Prim.Native.Nat.{ℕ, _+_, _-_, _≤_, _<_}
 use native.Mathlib.Omega.{arith}
 use lib.ListN.{length}
@@ -9,17 +9,15 @@ use Rattle.dictionary.specs.declared.Names.{Names}
 use Rattle.frames.specs.declared.Frame.the-variants.{Ends}
 use Rattle.numbers.specs.Little.{numberAt}
 use Rattle.paper.specs.Cells.{cellMeaning}
-use Rattle.paper.specs.Metadata.{Dictionary, namesIn}
+use Rattle.paper.specs.Metadata.{Dictionary}
 use Rattle.paper.specs.Schemas.{Schema, columnCode}
 use Rattle.paper.specs.Words.{at, part, isThere}
 use Rattle.places.specs.Parts.{partsOf}
 use Rattle.places.specs.Verdicts.{placeVerdict}
 use Rattle.places.specs.Walking.{NodeReady}
 use Rattle.places.specs.declared.parts.Parts.the-variants.{Typed}
-use Rattle.places.specs.declared.verdicts.Verdict.the-variants.{Lawful, Unparsed}
-use Rattle.places.specs.declared.verdicts.Verdict.{Verdict}
+use Rattle.places.specs.declared.verdicts.Verdict.the-variants.{Lawful}
 use Rattle.schemas.specs.Positions.{Stands}
-use Rattle.schemas.specs.declared.readers.Kind.the-variants.{Column}
 use Rattle.frames.proofs.FrameLaws.{ends-there}
 use Rattle.places.proofs.PartLaws.{only-typed, split-one}
 use Rattle.places.proofs.PlaceLaws.{told-by, place-empty, place-typed}
@@ -32,17 +30,14 @@ use Rattle.rows.specs.Quick.{NodeThere}
 pub some-node : {levels : ℕ} {readings metadata : List ℕ} {names : Names} {s table : List ℕ} {place : ℕ} → NodeReady levels readings metadata names s table place → NodeThere s place
 some-node {levels} ready = record { levels = levels; node = ready .node; stands = ready .stands }
 
-module _ {s : List ℕ} {place : ℕ} (there : NodeThere s place) where
-  pub tag-there : place < length s
-  tag-there = kind-there (there .stands) .tag-there
+-- A node of a column's tag has a column's code behind its frame's head.
+module _ {s : List ℕ} {place : ℕ} (there : NodeThere s place) (tagged : at s place ≡ 0x10) where
+  pub code-there : place + 3 < length s
+  code-there = kind-there (there .stands) .code-there tagged
 
-  module _ (tagged : at s place ≡ 0x10) where
-    pub code-there : place + 3 < length s
-    code-there = kind-there (there .stands) .code-there tagged
-
-    pub code-good : columnCode (at s (place + 3)) ≡ true
-    code-good =
-        let here = column-here (there .stands) (kind-column s place (omega arith) tagged) refl in rw (here .2) at (here .3 .good)
+  pub code-good : columnCode (at s (place + 3)) ≡ true
+  code-good =
+      let here = column-here (there .stands) (kind-column s place (omega arith) tagged) refl in rw (here .2) at (here .3 .good)
 
 -- ---- what it tells
 

@@ -78,6 +78,7 @@ pub +held+list-places+object-places+place+typed-spec : {M : Type 1} → statemen
     (plainly-lawful-reads.Asked, plainly-lawful-reads.Learnt, asked-below μ-place place.Pre t, place.Post)
     (given-at μ-held held.Pre t) held.Post
     (λ c κs. some-node (c .before .before .before .before .before .pre .1 .0))
+    -- lawful at the first look
     (λ c. λ under stands. sym (c .before .plainly-lawful .ensures (c .if1 .taken) _ _ under stands))
     -- the call of `place` on the same body, at the same levels
     (λ c κs. let pre = c .before .before .before .before .before .before .before .pre in (omega (arith, pre .0), pre .1))
