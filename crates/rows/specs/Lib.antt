@@ -1,2 +1,3 @@
 -- A row opened and judged.
+pub mod Quick
 pub mod Judging

@@ -9,6 +9,7 @@ ghost use Rattle.paper.specs.Schemas.{Schema, SchemaFields};
 ghost use Rattle.schemas.specs.Positions.{Stands, FieldsStand};
 ghost use Rattle.places.specs.Verdicts.{typedVerdict, placeVerdict, elementsVerdict, membersVerdict};
 ghost use Rattle.places.specs.Walking.{NodeReady, FieldsReady};
+use crate::quick::plainly_lawful;
 use dictionary::Names;
 use frames::Frame;
 use places::Parts;
@@ -138,6 +139,26 @@ fn typed(
     }
 }
 
+// A place that a list or an object holds, by the body of its frame: the quick look first.
+fn held(
+    levels: usize,
+    readings: &[u8],
+    metadata: &[u8],
+    names: Names,
+    schema: &[u8],
+    table: &[u16],
+    node: usize,
+    body: &[u8],
+) -> Verdict
+    requires { ⌜ NodeReady levels (now readings) (now metadata) names (now schema) (now table) node × (length (now body) ≤ mostWalked) ⌝ }
+    ensures { λ r. ⌜ ((under : Schema) → Stands levels (now (schema .entry)) node under → r ≡ placeVerdict under levels (namesIn (now (metadata .entry))) (now (body .entry))) ⌝ }
+{
+    if plainly_lawful(schema, node, body) {
+        return Verdict::Lawful;
+    }
+    place(levels, readings, metadata, names, schema, table, node, body)
+}
+
 // A list's places, each under the element node.
 fn list_places(
     levels: usize,
@@ -159,7 +180,7 @@ fn list_places(
             return Verdict::Unparsed;
         };
         let inner = at + 3;
-        let one = place(
+        let one = held(
             levels,
             readings,
             metadata,
@@ -202,7 +223,7 @@ fn object_places(
         };
         let inner = at + 3;
         let node = schemas::field_node(schema, field);
-        let one = place(
+        let one = held(
             levels,
             readings,
             metadata,

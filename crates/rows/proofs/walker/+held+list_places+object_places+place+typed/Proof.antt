@@ -1,5 +1,5 @@
--- `place`, `typed`, `list_places` and `object_places`: a place is judged by its parts, what is typed in it by the kind of its
--- node, and inner places one after another. A call takes a level, or keeps it and goes from a walker to `place` to `typed`.
+-- `held`, `place`, `typed`, `list_places` and `object_places`: a place is judged by its parts, what is typed in it by the kind of its
+-- node, and inner places one after another. A call takes a level, or keeps it and goes from a walker to `held` to `place` to `typed`.
 use Prim.Native.Nat.{ℕ, _+_, _-_, _*_}
 use mathlib.Core.Path.{refl, sym, _∙_}
 use native.Mathlib.Omega.{arith}
@@ -9,19 +9,24 @@ use lib.ListN.{length, length-take, length-drop}
 use Rattle.paper.specs.Metadata.{namesIn}
 use Rattle.numbers.proofs.Cycle.{given-at, asked-below}
 use Rattle.places.proofs.PlaceLaws.{told-by, one-long, typed-long, both-long, place-empty, place-unframed, place-left, place-typed, place-both}
+use Rattle.rows.proofs.QuickLaws.{some-node}
 use Rattle.rows.proofs.WalkLaws.{left-ready, typed-none, typed-cell, typed-elements, typed-members, ready-kind, ready-level, ready-frame, ready-code, ready-element, ready-fields, ListSeen, list-start, list-done, list-cut, list-fits, list-next, FieldsSeen, fields-start, fields-more, fields-done, field-node-in, field-frame-in, field-entry, field-ready, fields-few, fields-cut, fields-fit, fields-next}
+use Rattle.rows.proofs.walker.held.Reads as held
+use Rattle.rows.proofs.walker.held.Kinds as held-kinds
+use Rattle.rows.proofs.walker.+held+list_places+object_places+place+typed.Lts-held as held-lts
 use Rattle.rows.proofs.walker.list_places.Reads as list-places
 use Rattle.rows.proofs.walker.list_places.Kinds as list-places-kinds
-use Rattle.rows.proofs.walker.+list_places+object_places+place+typed.Lts-list_places as list-places-lts
+use Rattle.rows.proofs.walker.+held+list_places+object_places+place+typed.Lts-list_places as list-places-lts
 use Rattle.rows.proofs.walker.object_places.Reads as object-places
 use Rattle.rows.proofs.walker.object_places.Kinds as object-places-kinds
-use Rattle.rows.proofs.walker.+list_places+object_places+place+typed.Lts-object_places as object-places-lts
+use Rattle.rows.proofs.walker.+held+list_places+object_places+place+typed.Lts-object_places as object-places-lts
 use Rattle.rows.proofs.walker.place.Reads as place
 use Rattle.rows.proofs.walker.place.Kinds as place-kinds
-use Rattle.rows.proofs.walker.+list_places+object_places+place+typed.Lts-place as place-lts
+use Rattle.rows.proofs.walker.+held+list_places+object_places+place+typed.Lts-place as place-lts
 use Rattle.rows.proofs.walker.typed.Reads as typed
 use Rattle.rows.proofs.walker.typed.Kinds as typed-kinds
-use Rattle.rows.proofs.walker.+list_places+object_places+place+typed.Lts-typed as typed-lts
+use Rattle.rows.proofs.walker.+held+list_places+object_places+place+typed.Lts-typed as typed-lts
+use Rattle.rows.proofs.quick.plainly_lawful.Reads as plainly-lawful-reads
 use Rattle.cells.proofs.good.Reads as good-reads
 use Rattle.places.proofs.place_frame.Reads as place-frame-reads
 use Rattle.places.proofs.alone.Reads as alone-reads
@@ -34,20 +39,23 @@ use Rattle.places.proofs.worse.Reads as worse-reads
 use Rattle.schemas.proofs.field_node.Reads as field-node-reads
 use Rattle.schemas.proofs.frame_end.Reads as frame-end-reads
 use Rattle.schemas.proofs.kind_at.Reads as kind-at-reads
-use Rattle.rows.proofs.walker.+list_places+object_places+place+typed.{statement}
-use Rattle.rows.proofs.walker.+list_places+object_places+place+typed.Tie.{close}
+use Rattle.rows.proofs.walker.+held+list_places+object_places+place+typed.{statement}
+use Rattle.rows.proofs.walker.+held+list_places+object_places+place+typed.Tie.{close}
+
+abbrev μ-held : Measures 5 held-kinds.ps ℕ
+μ-held κs a = 4 * a .0 + 2
 
 abbrev μ-list-places : Measures 5 list-places-kinds.ps ℕ
-μ-list-places κs a = 3 * a .0 + 2
+μ-list-places κs a = 4 * a .0 + 3
 
 abbrev μ-object-places : Measures 5 object-places-kinds.ps ℕ
-μ-object-places κs a = 3 * a .0 + 2
+μ-object-places κs a = 4 * a .0 + 3
 
 abbrev μ-place : Measures 5 place-kinds.ps ℕ
-μ-place κs a = 3 * a .0 + 1
+μ-place κs a = 4 * a .0 + 1
 
 abbrev μ-typed : Measures 5 typed-kinds.ps ℕ
-μ-typed κs a = 3 * a .0
+μ-typed κs a = 4 * a .0
 
 abbrev list-places-Inv-loop : list-places-lts.InvT-loop
 list-places-Inv-loop levels readings metadata names schema table node body verdict₀ at₀ verdict at =
@@ -63,11 +71,21 @@ object-places-Inv-loop levels readings metadata names schema table from to body 
 abbrev object-places-μ-loop : object-places-lts.MeasureT-loop
 object-places-μ-loop levels readings metadata names schema table from to body verdict₀ field₀ at₀ verdict field at = to - field
 
-pub +list-places+object-places+place+typed-spec : {M : Type 1} → statement M
-+list-places+object-places+place+typed-spec = close μ-list-places μ-object-places μ-place μ-typed
+pub +held+list-places+object-places+place+typed-spec : {M : Type 1} → statement M
++held+list-places+object-places+place+typed-spec = close μ-held μ-list-places μ-object-places μ-place μ-typed
+    -- ---- `held`
+    (λ t. held-lts.spec
+    (plainly-lawful-reads.Asked, plainly-lawful-reads.Learnt, asked-below μ-place place.Pre t, place.Post)
+    (given-at μ-held held.Pre t) held.Post
+    (λ c κs. some-node (c .before .before .before .before .before .pre .1 .0))
+    -- lawful at the first look
+    (λ c. λ under stands. sym (c .before .plainly-lawful .ensures (c .if1 .taken) _ _ under stands))
+    -- the call of `place` on the same body, at the same levels
+    (λ c κs. let pre = c .before .before .before .before .before .before .before .pre in (omega (arith, pre .0), pre .1))
+    (λ c. c .place .ensures))
     -- ---- `list_places`
     (λ t. list-places-lts.spec
-    (place-frame-reads.Asked, place-frame-reads.Learnt, asked-below μ-place place.Pre t, place.Post, broken-if-reads.Asked, broken-if-reads.Learnt, worse-reads.Asked, worse-reads.Learnt)
+    (place-frame-reads.Asked, place-frame-reads.Learnt, asked-below μ-held held.Pre t, held.Post, broken-if-reads.Asked, broken-if-reads.Learnt, worse-reads.Asked, worse-reads.Learnt)
     (given-at μ-list-places list-places.Pre t) list-places.Post
     list-places-Inv-loop list-places-μ-loop
     -- nothing judged yet
@@ -84,7 +102,7 @@ pub +list-places+object-places+place+typed-spec : {M : Type 1} → statement M
     let fits = list-fits (turn .before .loop .inv) has (frame .place-frame .ensures) (c .before .end .given .1) in search needs)
     (λ c. let frame = c .before .before .before in let turn = frame .before in let has = frame .before .loop-test .taken in
     let fits = list-fits (turn .before .loop .inv) has (frame .place-frame .ensures) (c .before .end .given .1) in search needs)
-    -- the call of `place` on an element, at the same levels
+    -- the call of `held` on an element, at the same levels
     (λ c κs. let pre = c .before .before .before .before .before .before .before .before .before .before .before .before .pre in
     (omega (arith, pre .0), (pre .1 .0, simp (length-take, length-drop) (omega (arith, pre .1 .1)))))
     (λ c κs. search needs) (λ c κs. search needs)
@@ -95,11 +113,11 @@ pub +list-places+object-places+place+typed-spec : {M : Type 1} → statement M
     -- one element more
     (λ c. let frame = c .before .before .before .before .before .before .before in let turn = frame .before in
     let has = frame .before .loop-test .taken in
-    list-next (turn .before .loop .inv) has (frame .place-frame .ensures) (c .before .before .before .before .before .end .given .1) _ (c .before .before .place .ensures) _ (c .before .broken-if .ensures) _ (c .worse .ensures))
+    list-next (turn .before .loop .inv) has (frame .place-frame .ensures) (c .before .before .before .before .before .end .given .1) _ (c .before .before .held .ensures) _ (c .before .broken-if .ensures) _ (c .worse .ensures))
     (λ c. list-done (c .before .loop .inv) (c .loop-test .left)))
     -- ---- `object_places`
     (λ t. object-places-lts.spec
-    (place-frame-reads.Asked, place-frame-reads.Learnt, field-node-reads.Asked, field-node-reads.Learnt, asked-below μ-place place.Pre t, place.Post, nameless-reads.Asked, nameless-reads.Learnt, broken-if-reads.Asked, broken-if-reads.Learnt, worse-reads.Asked, worse-reads.Learnt, frame-end-reads.Asked, frame-end-reads.Learnt)
+    (place-frame-reads.Asked, place-frame-reads.Learnt, field-node-reads.Asked, field-node-reads.Learnt, asked-below μ-held held.Pre t, held.Post, nameless-reads.Asked, nameless-reads.Learnt, broken-if-reads.Asked, broken-if-reads.Learnt, worse-reads.Asked, worse-reads.Learnt, frame-end-reads.Asked, frame-end-reads.Learnt)
     (given-at μ-object-places object-places.Pre t) object-places.Post
     object-places-Inv-loop object-places-μ-loop
     -- nothing judged yet; a place is missing
@@ -123,7 +141,7 @@ pub +list-places+object-places+place+typed-spec : {M : Type 1} → statement M
     (λ c. let frame = c .before .before .before .before in let turn = frame .before .before in let has = frame .before .if1 .left in
     let fits = fields-fit (turn .before .loop .inv) (turn .loop-test .taken) has (frame .place-frame .ensures) (c .before .before .end .given .1) in
     search needs)
-    -- the call of `place` on a field, at the same levels
+    -- the call of `held` on a field, at the same levels
     (λ c κs. let frame = c .before .before .before .before .before in let turn = frame .before .before in
     let pre = turn .before .before .before .before .before .before .before .pre in
     (omega (arith, pre .0), (field-ready (turn .before .loop .inv) (turn .loop-test .taken) refl (pre .1 .0) _ (c .before .field-node .ensures), simp (length-take, length-drop) (omega (arith, pre .1 .1)))))
@@ -137,7 +155,7 @@ pub +list-places+object-places+place+typed-spec : {M : Type 1} → statement M
     -- one field more
     (λ c. let frame = c .before .before .before .before .before .before .before .before .before .before in
     let turn = frame .before .before in let has = frame .before .if1 .left in
-    fields-next (turn .before .loop .inv) (turn .loop-test .taken) has (frame .place-frame .ensures) (c .before .before .before .before .before .before .before .before .end .given .1) _ (c .before .before .before .before .before .before .field-node .ensures) _ (c .before .before .before .before .place .ensures) _ (c .before .before .before .nameless .ensures) _ (c .before .before .broken-if .ensures) _ (c .before .worse .ensures) _ (c .frame-end .ensures))
+    fields-next (turn .before .loop .inv) (turn .loop-test .taken) has (frame .place-frame .ensures) (c .before .before .before .before .before .before .before .before .end .given .1) _ (c .before .before .before .before .before .before .field-node .ensures) _ (c .before .before .before .before .held .ensures) _ (c .before .before .before .nameless .ensures) _ (c .before .before .broken-if .ensures) _ (c .before .worse .ensures) _ (c .frame-end .ensures))
     -- a place too many; all judged
     (λ c. fields-more (c .before .before .loop .inv) (c .before .loop-test .left) (c .if2 .taken))
     (λ c. fields-done (c .before .before .loop .inv) (c .before .loop-test .left) (c .if2 .left)))
