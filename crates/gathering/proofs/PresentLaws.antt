@@ -1,18 +1,13 @@
 -- The id of a schema field: where its place has bytes it is marked, else none is.
-use mathlib.Core.Bool.{true}
 use mathlib.Core.List.{List, [], _∷_, _++_}
 use mathlib.Core.Path.{_≡_, refl, sym, ap, _∙_}
-use Prim.Native.Nat.{ℕ, _<_}
+use Prim.Native.Nat.{ℕ}
 use native.Mathlib.Omega.{arith}
-use borrow.Author.Tests.{ltb-true}
-use lib.Dec.{ltb}
 use lib.ListN.{length, set}
 use Rattle.dictionary.specs.declared.ids.InputId.{InputId}
 use Rattle.lookup.specs.declared.Looked.the-variants.{At, Nowhere}
 use Rattle.lookup.specs.declared.Looked.{Looked}
 use Rattle.marking.specs.Ids.{markIds}
-use Rattle.paper.proofs.WordLaws.{and-both}
-use Rattle.paper.specs.Words.{allBelow}
 use Rattle.rebuilt.specs.Using.{addId}
 
 -- The field's own id comes first.
@@ -38,12 +33,6 @@ module _ (body used : List ℕ) (some-bytes : length body ≡ 0 → ⊥) (looked
         go : (body : List ℕ) → (length body ≡ 0 → ⊥) → addId body (At id) [] ≡ id .0 ∷ []
         go [] none-there = absurd (none-there refl)
         go (b ∷ bs) there = refl
-
-    pub field-below : allBelow (length used) (addId body looked []) ≡ true → id .0 < length used
-    unfolding allBelow
-    field-below below =
-        let one : allBelow (length used) (id .0 ∷ []) ≡ true = ap (allBelow (length used)) (sym own-id) ∙ below in
-        ltb-true (id .0) (length used) (and-both (ltb (id .0) (length used)) true one .0)
 
     pub field-marked : (after : List ℕ) → after ≡ set used (id .0) 1 → after ≡ markIds used (addId body looked [])
     unfolding markIds

@@ -1,26 +1,23 @@
 -- The two loops over inner places: what is left of them is to be marked on what is marked.
-use mathlib.Core.Bool.{true}
-use mathlib.Core.List.{List, [], _∷_, _++_}
+use mathlib.Core.List.{List, [], _++_}
 use mathlib.Core.Path.{_≡_, refl, sym, ap, _∙_}
-use Prim.Native.Nat.{ℕ, _+_, _-_, _≤_, _<_}
+use Prim.Native.Nat.{ℕ, _+_, _≤_, _<_}
 use native.Mathlib.Omega.{arith}
-use borrow.Author.Tests.{lt-ltb}
-use lib.ListN.{length, drop, length-take, length-drop}
+use lib.ListN.{length, drop}
 use Rattle.dictionary.specs.declared.ids.InputId.{InputId}
 use Rattle.fields.specs.Telling.{entryPlace, lookedAt}
 use Rattle.frames.specs.declared.Frame.the-variants.{Ends, Cut}
 use Rattle.frames.specs.declared.Frame.{Frame}
 use Rattle.lookup.specs.declared.Looked.the-variants.{At}
-use Rattle.lookup.specs.declared.Looked.{Looked}
 use Rattle.marking.proofs.MarkLaws.{marked-length, mark-append}
 use Rattle.marking.specs.Ids.{markIds}
 use Rattle.paper.specs.Bounds.{mostWalked}
 use Rattle.paper.specs.Framing.{Piece}
 use Rattle.paper.specs.Metadata.{Dictionary}
 use Rattle.paper.specs.Schemas.{Schema, SchemaFields, named}
-use Rattle.paper.specs.Words.{part, allBelow, joined}
+use Rattle.paper.specs.Words.{part, joined}
 use Rattle.places.specs.Frames.{placeFrame}
-use Rattle.rebuilt.proofs.InnerLaws.{pieces-none, element-whole, element-fits, element-place, elements-behind, element-pieces, members-none, member-first, member-has, member-node-in, member-frame-in, member-entry, member-whole, member-fits, member-place, members-behind, members-behind-are, member-pieces, member-named}
+use Rattle.rebuilt.proofs.InnerLaws.{pieces-none, element-whole, element-fits, element-place, elements-behind, element-pieces, members-none, member-first, member-has, member-node-in, member-frame-in, member-entry, member-below, member-whole, member-fits, member-place, members-behind, members-behind-are, member-pieces}
 use Rattle.rebuilt.specs.Rebuilt.{piecesIn}
 use Rattle.rebuilt.specs.There.{ElementsThere, MembersThere}
 use Rattle.rebuilt.specs.Using.{addId, placeIds, memberIds, elementIds}
@@ -109,12 +106,6 @@ module _ {levels : ℕ} {schema table : List ℕ} {node : ℕ} {body used₀ : L
 
 -- ---- an object's places
 
-own-below : (held : List ℕ) (looked : Looked) (size : ℕ) → (0 < length held → (id : InputId) × (looked ≡ At id) × (id .0 < size))
-    → allBelow size (addId held looked []) ≡ true
-unfolding addId allBelow
-own-below [] looked size known = refl
-own-below (b ∷ bs) looked size known = let told = known (omega arith) in rw (told .1, lt-ltb (told .0 .0) size (told .2))
-
 pub record FieldsSeen (levels : ℕ) (schema table : List ℕ) (from to : ℕ) (body used₀ used : List ℕ) (field at : ℕ) : Type 0 where
   pub small : length body ≤ mostWalked
   pub names : Dictionary
@@ -154,6 +145,11 @@ module _ {levels : ℕ} {schema table : List ℕ} {from to : ℕ} {body used₀ 
       pub field-frame-in : frameEnd schema field ≤ length schema
       field-frame-in = member-frame-in body at (seen .there) left
 
+      -- what `mark_field` asks
+      pub field-asks : (entryPlace field < length table) × ((id : InputId) → lookedAt table field ≡ At id → id .0 < length used)
+      field-asks =
+          (member-entry body at (seen .there) left, λ id is. let below = member-below body at (seen .there) left id is in omega (arith, seen .room))
+
       module _ {r : Frame} (told : r ≡ placeFrame body at) where
         pub field-whole : r ≡ Cut → (columns : SchemaFields) → FieldsStand levels schema from to columns
             → used ≡ markIds used₀ (memberIds columns levels schema table from (piecesIn body))
@@ -165,16 +161,6 @@ module _ {levels : ℕ} {schema table : List ℕ} {from to : ℕ} {body used₀ 
 
           pub field-end : end ≤ length body
           field-end = member-fits body at (seen .there) left told e .1
-
-          -- what `mark_field` asks
-          pub field-asks : (entryPlace field < length table) × (allBelow (length used) (addId (part body (at + 3) end) (lookedAt table field) []) ≡ true)
-          field-asks =
-              let long : length (part body (at + 3) end) ≤ end - (at + 3) = simp (length-take, length-drop) (omega arith) in (
-                member-entry body at (seen .there) left,
-                own-below (part body (at + 3) end) (lookedAt table field) (length used) λ some-bytes.
-                    let known = member-named body at (seen .there) left told e (omega arith) in
-                    (known .id, known .looked-is, omega (arith, known .below, seen .room)),
-              )
 
           -- what `place` asks, when the field's id is marked
           pub field-inside : (node : ℕ) → node ≡ fieldNode schema field → (between ids : List ℕ) → between ≡ markIds used ids

@@ -84,10 +84,7 @@ pub +list-places+object-places+place+typed-spec : {M : Type 1} → statement M
     (λ c. let turn = c .before .before .before .before in let has = field-has (turn .before .loop .inv) (turn .loop-test .taken) in search needs)
     (λ c. search (needs, field-inner)) (λ c. search (needs, field-inner)) (λ c. search (needs, field-end))
     (λ c κs. search (needs, field-node-in))
-    -- what `mark_field` asks
-    (λ c κs. let known = c .before .before .before .before in let frame = known .before .before in
-    let left = frame .before .loop-test .taken in
-    field-asks (frame .before .before .loop .inv) left (frame .place-frame .ensures) (known .end .given .1))
+    (λ c κs. let turn = c .before .before .before .before .before .before .before in field-asks (turn .before .loop .inv) (turn .loop-test .taken))
     -- the call of `place` on a field, at the same levels, with the field's id marked
     (λ c κs. let known = c .before .before .before .before .before .before .before .before in let frame = known .before .before in
     let left = frame .before .loop-test .taken in
