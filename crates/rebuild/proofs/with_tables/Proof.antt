@@ -19,9 +19,10 @@ with-room-requires c κs =
     let ranked = c .before .before .before .before .before .before .before .before .before in
     let placed = ranked .before .before .before .before .before .before .before in
     let known = placed .before .before .before .before .before .before .before .before .before .before in
-    let pre = known .before .before .pre in
-    (readings-all,
-    numbered (pre .0) (λ i. omega (arith, known .shared-slice-known2 .given i)) (placed .place .ensures) (pre .4) (pre .1) (ranked .rank .ensures) (search needs) (search needs))
+    let pre = known .before .before .pre in (
+      readings-all,
+      numbered (pre .0) (λ i. omega (arith, known .shared-slice-known2 .given i)) (placed .place .ensures) (pre .4) (pre .1) (ranked .rank .ensures) (search needs) (search needs),
+    )
 
 pub with-tables-spec : {M : Type 1} → statement M
 with-tables-spec =
