@@ -15,9 +15,9 @@ use Rattle.marking.specs.Marking.{Markable}
 use Rattle.naming.specs.Chosen.{chosenNames, Chosen}
 use Rattle.normalise.specs.Answered.{Lent, Numbered, Answered}
 use Rattle.paper.specs.Bounds.{mostNames, mostWalked}
-use Rattle.paper.specs.Limits.{mostLevels}
+use Rattle.paper.specs.Limits.{mostLevels, mostMetadata}
 use Rattle.paper.specs.Meaning.{Doc}
-use Rattle.paper.specs.Metadata.{Dictionary, dictionaryOf, namesIn, offsetSize}
+use Rattle.paper.specs.Metadata.{Dictionary, namesIn}
 use Rattle.paper.specs.Normal.{namesUsed, valueBytes, normalForm}
 use Rattle.paper.specs.Operations.{written}
 use Rattle.paper.specs.Values.{meaningOf, namesAt}
@@ -74,7 +74,7 @@ ready {m} {names} {v} {ranks} {chosen} {count} n room twice most =
 -- ---- what stands in the room is the normal value, so what is handed out is the answer
 
 -- New bytes that end where a buffer does are its last bytes.
-last-bytes : {new before after : List ℕ} {start : ℕ} → EndsAt new before after (length before) start → take (length before - start) (drop start after) ≡ new
+pub last-bytes : {new before after : List ℕ} {start : ℕ} → EndsAt new before after (length before) start → take (length before - start) (drop start after) ≡ new
 last-bytes {new} {before} {after} {start} e =
     let size : start + length new ≡ length before = e .size in
     let front : length (take start before) ≡ start = length-take start before ∙ (omega arith) in
@@ -107,19 +107,40 @@ write-answers {m} {names} {v} {ranks} {chosen} {count} n {before} {after} {start
     rw (← same) (answers (n .d) (n .used) (last-bytes own))
 
 -- What is among the names of ids of a dictionary is among its names.
-picked-among : (names : Dictionary) (ids : List ℕ) → allBelow (length names) ids ≡ true
+pub picked-among : (names : Dictionary) (ids : List ℕ) → allBelow (length names) ids ≡ true
     → (name : List ℕ) → among name (namesAt names ids) ≡ true → among name names ≡ true
 picked-among names ids below name e =
     let n = named names ids name e in
     let inside : n .0 < length names = below-held (length names) ids below (n .0) (n .1) in
     ap (λ (x : List ℕ). among x names) (sym (n .2)) ∙ among-at names (n .0) inside
 
+-- The ids picked by the ranking are chosen for the metadata.
+module _ {m : List ℕ} {names : Names} (opened : Opened m names) (small : length m ≤ mostMetadata)
+    {used ranks chosen : List ℕ} {picked : ℕ} (ranked : Ranked (namesIn m) used ranks chosen picked) where
+  -- the names chosen are names of the dictionary, so they are no longer together
+  chosen-short : length (joined (chosenNames m chosen picked)) ≤ length m
+  chosen-short =
+      let inside = contained-length (chosenNames m chosen picked) (namesIn m) (ranked .rise) (picked-among (namesIn m) (take picked chosen) (ranked .within)) in
+      let all = read-length m (namesIn m) (opened-names opened) in
+      omega arith
+
+  pub picked-chosen : names .count ≤ length chosen → Chosen m names chosen picked
+  picked-chosen room =
+      let is = count-is opened in
+      let few = names-few opened small in
+      let picked-few = ranked .few in
+      record {
+        opened = opened;
+        listed = omega arith;
+        few = omega arith;
+        known = rw is (ranked .within);
+        small = small;
+        short = chosen-short;
+      }
+
 -- ---- the names of a lawful document, marked and ranked, are numbered
 
 module _ {m : List ℕ} {names : Names} {v : List ℕ} (lent : Lent m names v) where
-  read : dictionaryOf m ≡ some (namesIn m)
-  read = opened-names (lent .opened)
-
   -- what the marking asks, of a table that has an entry for each name
   pub markable : (size : ℕ) → names .count ≤ size → Markable mostLevels v size
   markable size room =
@@ -138,8 +159,6 @@ module _ {m : List ℕ} {names : Names} {v : List ℕ} (lent : Lent m names v) w
       let d : Doc = there .0 in
       let means : meaningOf mostLevels (namesIn m) v ≡ some d = there .1 in
       let is = count-is (lent .opened) in
-      let few = count-few in
-      let picked-few = ranked .few in
       let marked : used ≡ markIds (replicate (length before) 0) (idsIn mostLevels v) = marks ∙ ap (λ (l : List ℕ). markIds l (idsIn mostLevels v)) clean in
       let ids : List ℕ = idsIn mostLevels v in
       let below : allBelow (length (namesIn m)) ids ≡ true = ids-below mostLevels (namesIn m) v d means in
@@ -147,14 +166,7 @@ module _ {m : List ℕ} {names : Names} {v : List ℕ} (lent : Lent m names v) w
       let names-used : chosenNames m chosen picked ≡ namesUsed d =
       chosen-used (namesIn m) ids below d exact (length before) (omega arith) used marked ranks chosen picked ranked in
       record {
-        choice = record {
-          opened = lent .opened;
-          listed = omega arith;
-          few = omega arith;
-          known = rw is (ranked .within);
-          small = lent .metadata-short;
-          short = chosen-short;
-        };
+        choice = picked-chosen (lent .opened) (lent .metadata-short) ranked chosen-room;
         d = d;
         means = means;
         used = names-used;
@@ -163,10 +175,3 @@ module _ {m : List ℕ} {names : Names} {v : List ℕ} (lent : Lent m names v) w
         bytes = bytes;
         value-short = lent .value-short;
       }
-    where
-      -- the names chosen are names of the dictionary, so they are no longer together
-      chosen-short : length (joined (chosenNames m chosen picked)) ≤ length m
-      chosen-short =
-          let inside = contained-length (chosenNames m chosen picked) (namesIn m) (ranked .rise) (picked-among (namesIn m) (take picked chosen) (ranked .within)) in
-          let all = read-length m (namesIn m) read in
-          omega arith

@@ -23,7 +23,7 @@ use paper::Refusal;
 
 // Hands out a value in normal form, and the metadata of the chosen names, if the value is not too large and both buffers
 // have room.
-fn hand_out(
+pub fn hand_out(
     metadata: &[u8],
     names: Names,
     chosen: &[u16],

@@ -4,4 +4,6 @@ pub mod DocumentAnswers
 pub mod NormaliseLaws
 pub mod FoundLaws
 pub mod OneAnswer
+pub mod RowOutcomes
 pub mod RowAnswers
+pub mod RebuildLaws

@@ -31,6 +31,13 @@ use Rattle.numbers.proofs.PutLaws.{put-none}
 use Rattle.paper.proofs.WordLaws.{some-there}
 use Rattle.register.proofs.DocumentAnswers.{judged-lawful, judged-refused, lawful, refused-same}
 
+-- What is refused leaves both buffers as they were.
+pub refused-answers : {o : Outcome normal.Document} {refusal : Refusal} → o ≡ refused refusal → (first second : List ℕ)
+    → Answered o first first second second (document.Refused refusal)
+unfolding documentAnswer metadataWritten valueWritten
+refused-answers e first second =
+    rw e (record { answer-is = refl; metadata-is = sym (put-none first 0); value-is = sym (put-none second 0) })
+
 module _ (m v : List ℕ) (r : Document) (told : r ≡ documentOf m v) where
   -- what the writing of the normal form asks
   pub normalise-asks : (names : Names) → r ≡ Lawful names → Lent m names v
@@ -49,16 +56,35 @@ module _ (m v : List ℕ) (r : Document) (told : r ≡ documentOf m v) where
 
   pub normalise-refused : (refusal : Refusal) → r ≡ Refused refusal → (first second : List ℕ)
       → Answered (normaliseOutcome m v) first first second second (document.Refused refusal)
-  unfolding normaliseOutcome documentAnswer metadataWritten valueWritten
+  unfolding normaliseOutcome
   normalise-refused refusal e first second =
-      rw (judged-refused (λ ns d. written d) m v refusal (refused-same m v r told refusal e))
-      (record { answer-is = refl; metadata-is = sym (put-none first 0); value-is = sym (put-none second 0) })
+      refused-answers (judged-refused (λ ns d. written d) m v refusal (refused-same m v r told refusal e)) first second
 
 -- ---- the lengths of an answer have room in a word
 
+pub record Fitting (n : normal.Document) : Type 0 where
+  pub metadata-fits : length (n .metadata) ≤ mostMetadata
+  pub value-fits : length (n .value) ≤ mostValue
+
+pub lengths-fit : (o : Outcome normal.Document) → ((n : normal.Document) → o ≡ reached n → Fitting n) → (a b : ℕ) → documentHasRoom (documentAnswer o a b) ≡ true
+unfolding documentAnswer
+lengths-fit (refused refusal) fits a b = refl
+lengths-fit (reached n) fits a b = go (documentRoom n a b)
+  where
+    small : ltb (length (n .metadata)) (2 ^ 24) && ltb (length (n .value)) (2 ^ 24) ≡ true
+    small =
+        let one : length (n .metadata) < 2 ^ 24 = omega (arith, fits n refl .metadata-fits) in
+        let two : length (n .value) < 2 ^ 24 = omega (arith, fits n refl .value-fits) in
+        rw (lt-ltb (length (n .metadata)) (2 ^ 24) one, lt-ltb (length (n .value)) (2 ^ 24) two)
+
+    go : (room : Bool)
+        → documentHasRoom (cond room (document.Done (length (n .metadata)) (length (n .value))) (document.Short (length (n .metadata)) (length (n .value)))) ≡ true
+    go true = small
+    go false = small
+
 module _ (m v : List ℕ) (bytes : (i : ℕ) → getD m i 0 < 256) where
   -- the normal metadata is no longer than the lent one, and the normal value no longer than a value may be
-  reached-fits : (n : normal.Document) → normaliseOutcome m v ≡ reached n → ltb (length (n .metadata)) (2 ^ 24) && ltb (length (n .value)) (2 ^ 24) ≡ true
+  reached-fits : (n : normal.Document) → normaliseOutcome m v ≡ reached n → Fitting n
   unfolding normalForm
   reached-fits n e =
       let a : Accepted m v n = accepted m v n e in
@@ -67,21 +93,9 @@ module _ (m v : List ℕ) (bytes : (i : ℕ) → getD m i 0 < 256) where
       let shorter : length (metadataBytes (namesUsed (a .d))) ≤ length m = normal-shorter m v n a bytes in
       let fit : length m ≤ mostMetadata = a .metadata-fits in
       let fit-value : length (valueBytes (namesUsed (a .d)) (a .d)) ≤ mostValue = a .written-fits in
-      let one : length (n .metadata) < 2 ^ 24 = omega arith in
-      let two : length (n .value) < 2 ^ 24 = omega arith in
-      rw (lt-ltb (length (n .metadata)) (2 ^ 24) one, lt-ltb (length (n .value)) (2 ^ 24) two)
-
-  lengths-fit : (o : Outcome normal.Document) → normaliseOutcome m v ≡ o → (a b : ℕ) → documentHasRoom (documentAnswer o a b) ≡ true
-  unfolding documentAnswer
-  lengths-fit (refused refusal) e a b = refl
-  lengths-fit (reached n) e a b = go (documentRoom n a b) (reached-fits n e)
-    where
-      go : (room : Bool) → ltb (length (n .metadata)) (2 ^ 24) && ltb (length (n .value)) (2 ^ 24) ≡ true
-          → documentHasRoom (cond room (document.Done (length (n .metadata)) (length (n .value))) (document.Short (length (n .metadata)) (length (n .value)))) ≡ true
-      go true small = small
-      go false small = small
+      record { metadata-fits = omega arith; value-fits = omega arith }
 
   pub answer-fits : (first first′ second second′ : List ℕ) (answer : DocumentAnswer)
       → Answered (normaliseOutcome m v) first first′ second second′ answer → documentHasRoom answer ≡ true
   answer-fits first first′ second second′ answer is =
-      ap documentHasRoom (is .answer-is) ∙ lengths-fit (normaliseOutcome m v) refl (length first) (length second)
+      ap documentHasRoom (is .answer-is) ∙ lengths-fit (normaliseOutcome m v) reached-fits (length first) (length second)

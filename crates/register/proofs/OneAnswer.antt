@@ -10,12 +10,14 @@ use Rattle.register.proofs.check as check
 use Rattle.register.proofs.find as find
 use Rattle.register.proofs.normalise as normalise
 use Rattle.register.proofs.judge as judge
+use Rattle.register.proofs.rebuild as rebuild
 use Rattle.register.proofs.lot_box as lot-box
 use Rattle.register.proofs.cell as cell
 use Rattle.register.proofs.tanvelis_check as tanvelis-check
 use Rattle.register.proofs.tanvelis_find as tanvelis-find
 use Rattle.register.proofs.tanvelis_normalise as tanvelis-normalise
 use Rattle.register.proofs.tanvelis_judge as tanvelis-judge
+use Rattle.register.proofs.tanvelis_rebuild as tanvelis-rebuild
 use Rattle.register.proofs.tanvelis_box as tanvelis-box
 use Rattle.register.proofs.tanvelis_box_east as tanvelis-box-east
 use Rattle.register.proofs.tanvelis_box_north as tanvelis-box-north
@@ -62,6 +64,10 @@ one-normalise κs lent answer other left left′ e f =
 pub one-judge : OneAnswer judge.ended judge.Reads.Post
 one-judge κs lent answer other left left′ e f = (settled e f, refl)
 
+pub one-rebuild : OneAnswer rebuild.ended rebuild.Reads.Post
+one-rebuild κs lent answer other left left′ e f =
+    (settled (e .answer-is) (f .answer-is), two-buffers (settled (e .metadata-is) (f .metadata-is)) (settled (e .value-is) (f .value-is)))
+
 pub one-lot-box : OneAnswer lot-box.ended lot-box.Reads.Post
 one-lot-box κs lent answer other left left′ e f = (settled e f, refl)
 
@@ -82,6 +88,10 @@ one-tanvelis-normalise κs lent answer other left left′ e f =
 
 pub one-tanvelis-judge : OneAnswer tanvelis-judge.ended tanvelis-judge.Reads.Post
 one-tanvelis-judge κs lent answer other left left′ e f = (settled e f, refl)
+
+pub one-tanvelis-rebuild : OneAnswer tanvelis-rebuild.ended tanvelis-rebuild.Reads.Post
+one-tanvelis-rebuild κs lent answer other left left′ e f =
+    (settled (e .0) (f .0), two-buffers (settled (e .1) (f .1)) (settled (e .2) (f .2)))
 
 pub one-tanvelis-box : OneAnswer tanvelis-box.ended tanvelis-box.Reads.Post
 one-tanvelis-box κs lent answer other left left′ e f = (settled e f, refl)

@@ -11,12 +11,12 @@ ghost use Rattle.paper.specs.Limits.{mostLevels};
 ghost use Rattle.paper.specs.Metadata.{namesIn};
 ghost use Rattle.normalise.specs.Answered.{Answered};
 ghost use Rattle.numbers.specs.Little.{putAt};
-ghost use Rattle.paper.specs.Operations.{normaliseOutcome, documentAnswer, metadataWritten, valueWritten, checkAnswer, findAnswer, judgeAnswer, foundBy, cellAnswer, boxAnswer};
+ghost use Rattle.paper.specs.Operations.{normaliseOutcome, rebuildOutcome, documentAnswer, metadataWritten, valueWritten, checkAnswer, findAnswer, judgeAnswer, foundBy, cellAnswer, boxAnswer};
 ghost use Rattle.paper.specs.Paths.{pathOf, findFrom};
 ghost use Rattle.paper.specs.Refusals.{obtain, reached};
 ghost use Rattle.paper.specs.Values.{meaningOf};
 ghost use Rattle.paper.specs.Words.{isThere};
-ghost use Rattle.words.specs.Boundary.{checkedWord, foundWord, documentWord, cellWord, boxWord};
+ghost use Rattle.words.specs.Boundary.{checkedWord, foundWord, documentWord, documentHasRoom, cellWord, boxWord};
 ghost use Rattle.words.specs.BoxParts.{sideWord};
 ghost use Rattle.words.specs.CellParts.{firstWord, secondWord};
 use dictionary::Names;
@@ -145,6 +145,61 @@ pub extern "C" fn tanvelis_judge(schema: &[u8], row: &[u8]) -> u64
     ensures { λ r. ⌜ r ≡ checkedWord (judgeAnswer (now (schema .entry)) (now (row .entry))) ⌝ }
 {
     words::checked_word(judge(schema, row))
+}
+
+// ---- rebuild
+
+// Rebuilds the document of a row under a schema. The lengths that it answers have room in a word.
+fn rebuild_row(
+    schema: &[u8],
+    row: &[u8],
+    metadata_out: &mut [u8],
+    value_out: &mut [u8],
+) -> DocumentAnswer
+    ensures { λ r. ⌜ Answered (rebuildOutcome (now (schema .entry)) (now (row .entry))) (now («metadata_out» .entry)) (now («metadata_out» .exit)) (now («value_out» .entry)) (now («value_out» .exit)) r × (documentHasRoom r ≡ true) ⌝ }
+{
+    if paper::MOST_SCHEMA < schema.len() {
+        return DocumentAnswer::Refused(Refusal::TooLong);
+    }
+    if paper::MOST_ROW < row.len() {
+        return DocumentAnswer::Refused(Refusal::TooLong);
+    }
+    if !schemas::good(schema) {
+        return DocumentAnswer::Refused(Refusal::BadSchema);
+    }
+    let mut table = [0u16; 456];
+    let judged = rows::judge(schema, row, &mut table);
+    match judged {
+        RowJudged::Lawful(parts) => {
+            rebuild::rebuild(schema, row, parts, &table, metadata_out, value_out)
+        }
+        RowJudged::Broken => DocumentAnswer::Refused(Refusal::BrokenRule),
+        RowJudged::Unparsed => DocumentAnswer::Refused(Refusal::BadRow),
+    }
+}
+
+// Rebuilds a Variant from a row and its schema: writes the normal form into two buffers, metadata and value.
+pub fn rebuild(
+    schema: &[u8],
+    row: &[u8],
+    metadata_out: &mut [u8],
+    value_out: &mut [u8],
+) -> DocumentAnswer
+    ensures { λ r. ⌜ Answered (rebuildOutcome (now (schema .entry)) (now (row .entry))) (now («metadata_out» .entry)) (now («metadata_out» .exit)) (now («value_out» .entry)) (now («value_out» .exit)) r ⌝ }
+{
+    rebuild_row(schema, row, metadata_out, value_out)
+}
+
+#[no_mangle]
+pub extern "C" fn tanvelis_rebuild(
+    schema: &[u8],
+    row: &[u8],
+    metadata_out: &mut [u8],
+    value_out: &mut [u8],
+) -> u64
+    ensures { λ r. ⌜ (r ≡ documentWord (documentAnswer (rebuildOutcome (now (schema .entry)) (now (row .entry))) (length (now («metadata_out» .entry))) (length (now («value_out» .entry))))) × (now («metadata_out» .exit) ≡ putAt (now («metadata_out» .entry)) 0 (metadataWritten (rebuildOutcome (now (schema .entry)) (now (row .entry))) (length (now («metadata_out» .entry))) (length (now («value_out» .entry))))) × (now («value_out» .exit) ≡ putAt (now («value_out» .entry)) 0 (valueWritten (rebuildOutcome (now (schema .entry)) (now (row .entry))) (length (now («metadata_out» .entry))) (length (now («value_out» .entry))))) ⌝ }
+{
+    words::document_word(rebuild_row(schema, row, metadata_out, value_out))
 }
 
 // ---- a lot's box

@@ -78,6 +78,7 @@ module _ (row : List ℕ) (r : Frame) (told : r ≡ halvesOf row) where
               (record {
                 first-long = h .first-long;
                 second-long = h .second-long;
+                halved = sym told ∙ e;
                 short = rw size short;
                 opened = metadata-opened;
                 comes-to = λ schema. row-place schema row middle h tag short (namesIn (part row 3 middle)) (opened-names metadata-opened) place;

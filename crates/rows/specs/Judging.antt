@@ -8,10 +8,12 @@ use lib.ListN.{length}
 use Rattle.dictionary.specs.Judging.{Opened}
 use Rattle.dictionary.specs.declared.Names.{Names}
 use Rattle.fields.specs.Telling.{Told}
+use Rattle.frames.specs.declared.Frame.the-variants.{Ends}
 use Rattle.paper.specs.Limits.{mostMetadata, mostRow, mostLevels}
 use Rattle.paper.specs.Metadata.{namesIn}
 use Rattle.paper.specs.Schemas.{Schema, schemaOf}
 use Rattle.paper.specs.Words.{part, isThere}
+use Rattle.places.specs.Halves.{halvesOf}
 use Rattle.places.specs.Verdicts.{placeVerdict, rowVerdict}
 use Rattle.rows.specs.declared.judging.Opening.{Opening}
 use Rattle.rows.specs.declared.judging.Opening.the-variants.{At, Cut}
@@ -32,6 +34,7 @@ outermostOf row parts = part row (parts .middle + 3) (length row)
 pub record InOrder (row : List ℕ) (parts : RowParts) : Type 0 where
   pub first-long : 3 ≤ parts .middle
   pub second-long : parts .middle + 3 ≤ length row
+  pub halved : halvesOf row ≡ Ends (parts .middle)
   pub short : length (metadataOf row parts) ≤ mostMetadata
   pub opened : Opened (metadataOf row parts) (parts .names)
   pub comes-to : (schema : Schema) → placeVerdict schema mostLevels (namesIn (metadataOf row parts)) (outermostOf row parts) ≡ rowVerdict schema row

@@ -1,0 +1,2 @@
+-- A lawful row to be rebuilt, and what came of a room for its document.
+pub mod Rebuilding
