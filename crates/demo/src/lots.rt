@@ -39,16 +39,14 @@ fn written(text: &[u8], length: usize, bytes: &[u8], given: &[u8]) {
     }
 }
 
-// A document normalised into two buffers: the lengths written or needed, and whether the buffers then hold what is given.
-fn normalise_into(
-    metadata: &[u8],
-    value: &[u8],
-    metadata_out: &mut [u8],
-    value_out: &mut [u8],
+// A document written into two buffers: the lengths written or needed, and whether the buffers now hold what is given.
+fn document(
+    answer: DocumentAnswer,
+    metadata_out: &[u8],
+    value_out: &[u8],
     metadata_given: &[u8],
     value_given: &[u8],
 ) {
-    let answer = register::normalise(metadata, value, metadata_out, value_out);
     match answer {
         DocumentAnswer::Done {
             metadata: first,
@@ -68,7 +66,7 @@ fn normalise_into(
     }
 }
 
-// The lengths of the two buffers are given, a byte each.
+// A document in its normal form. The lengths of the two buffers are given, a byte each.
 fn normalise(
     metadata: &[u8],
     value: &[u8],
@@ -80,11 +78,27 @@ fn normalise(
     let mut value_out = [0u8; 256];
     let m = reading::room(rooms, 0, &metadata_out);
     let v = reading::room(rooms, 1, &value_out);
-    normalise_into(
-        metadata,
-        value,
-        &mut metadata_out[..m],
-        &mut value_out[..v],
+    let answer = register::normalise(metadata, value, &mut metadata_out[..m], &mut value_out[..v]);
+    document(
+        answer,
+        &metadata_out[..m],
+        &value_out[..v],
+        metadata_given,
+        value_given,
+    );
+}
+
+// The document of a row. The lengths of the two buffers are given, a byte each.
+fn rebuild(schema: &[u8], row: &[u8], rooms: &[u8], metadata_given: &[u8], value_given: &[u8]) {
+    let mut metadata_out = [0u8; 256];
+    let mut value_out = [0u8; 256];
+    let m = reading::room(rooms, 0, &metadata_out);
+    let v = reading::room(rooms, 1, &value_out);
+    let answer = register::rebuild(schema, row, &mut metadata_out[..m], &mut value_out[..v]);
+    document(
+        answer,
+        &metadata_out[..m],
+        &value_out[..v],
         metadata_given,
         value_given,
     );
@@ -122,6 +136,9 @@ fn answer(line: &[u8], a: &[u8], b: &[u8], c: &[u8], d: &[u8], e: &[u8]) {
     }
     if reading::begins(line, b"normalise") {
         return normalise(a, b, c, d, e);
+    }
+    if reading::begins(line, b"rebuild") {
+        return rebuild(a, b, c, d, e);
     }
     if reading::begins(line, b"cell") {
         return cell(a, b);
