@@ -66,10 +66,37 @@ fn document(
     }
 }
 
-// A document in its normal form. The lengths of the two buffers are given, a byte each.
+// A document normalised into two buffers.
 fn normalise(
     metadata: &[u8],
     value: &[u8],
+    metadata_out: &mut [u8],
+    value_out: &mut [u8],
+    metadata_given: &[u8],
+    value_given: &[u8],
+) {
+    let answer = register::normalise(metadata, value, metadata_out, value_out);
+    document(answer, metadata_out, value_out, metadata_given, value_given);
+}
+
+// A row's document rebuilt into two buffers.
+fn rebuild(
+    schema: &[u8],
+    row: &[u8],
+    metadata_out: &mut [u8],
+    value_out: &mut [u8],
+    metadata_given: &[u8],
+    value_given: &[u8],
+) {
+    let answer = register::rebuild(schema, row, metadata_out, value_out);
+    document(answer, metadata_out, value_out, metadata_given, value_given);
+}
+
+// Lays out two buffers, whose lengths are given, a byte each, for a row's document or for a document's normal form.
+fn into_buffers(
+    of_row: bool,
+    a: &[u8],
+    b: &[u8],
     rooms: &[u8],
     metadata_given: &[u8],
     value_given: &[u8],
@@ -78,27 +105,21 @@ fn normalise(
     let mut value_out = [0u8; 256];
     let m = reading::room(rooms, 0, &metadata_out);
     let v = reading::room(rooms, 1, &value_out);
-    let answer = register::normalise(metadata, value, &mut metadata_out[..m], &mut value_out[..v]);
-    document(
-        answer,
-        &metadata_out[..m],
-        &value_out[..v],
-        metadata_given,
-        value_given,
-    );
-}
-
-// The document of a row. The lengths of the two buffers are given, a byte each.
-fn rebuild(schema: &[u8], row: &[u8], rooms: &[u8], metadata_given: &[u8], value_given: &[u8]) {
-    let mut metadata_out = [0u8; 256];
-    let mut value_out = [0u8; 256];
-    let m = reading::room(rooms, 0, &metadata_out);
-    let v = reading::room(rooms, 1, &value_out);
-    let answer = register::rebuild(schema, row, &mut metadata_out[..m], &mut value_out[..v]);
-    document(
-        answer,
-        &metadata_out[..m],
-        &value_out[..v],
+    if of_row {
+        return rebuild(
+            a,
+            b,
+            &mut metadata_out[..m],
+            &mut value_out[..v],
+            metadata_given,
+            value_given,
+        );
+    }
+    normalise(
+        a,
+        b,
+        &mut metadata_out[..m],
+        &mut value_out[..v],
         metadata_given,
         value_given,
     );
@@ -135,10 +156,10 @@ fn answer(line: &[u8], a: &[u8], b: &[u8], c: &[u8], d: &[u8], e: &[u8]) {
         return find(a, b, c);
     }
     if reading::begins(line, b"normalise") {
-        return normalise(a, b, c, d, e);
+        return into_buffers(false, a, b, c, d, e);
     }
     if reading::begins(line, b"rebuild") {
-        return rebuild(a, b, c, d, e);
+        return into_buffers(true, a, b, c, d, e);
     }
     if reading::begins(line, b"cell") {
         return cell(a, b);
