@@ -4,7 +4,9 @@
 use crate::parts;
 use crate::vary::{How, Trial};
 use second::bytes::push_frame;
-use second::generate::{rows, schemas};
+use second::doc::Doc;
+use second::generate::encode::{Encoder, Names};
+use second::generate::{docs, rows, schemas, Rng};
 use second::limits;
 use second::row::{LEFTOVER, METADATA, PLACE, TYPED};
 use second::value::{Size, SIZES};
@@ -26,7 +28,7 @@ pub fn sweep(op: Op) -> Vec<Trial> {
         Op::Find => [variants(op), paths()].concat(),
         Op::Shred => [variants(op), columns(), shred_of_all_tags()].concat(),
         Op::Rebuild | Op::Judge => {
-            [cells_in_rows(op), places(op), rows_of_all_tags(op), one_row(op)].concat()
+            [cells_in_rows(op), places(op), rows_of_all_tags(op), one_row(op), sizes(op)].concat()
         }
         Op::Cell => cells(),
     };
@@ -193,6 +195,35 @@ fn one_row(op: Op) -> Vec<Case> {
     cases
 }
 
+/// Rows around the lengths, and dictionaries around the counts, at which a program may change its ways:
+/// powers of two.
+fn sizes(op: Op) -> Vec<Case> {
+    let mut cases = Vec::new();
+    let mut add = |schema: Vec<u8>, metadata: &[u8], inside: &[u8]| {
+        let row = [frame(METADATA, metadata), frame(PLACE, inside)].concat();
+        cases.extend(parts::on_row(op, schema, row));
+    };
+    let around = |size: usize| size - 1..size + 2;
+    for length in [1_024, 4_096, 16_384, 32_768].into_iter().flat_map(around) {
+        add(frame(0x10, &[16]), &EMPTY, &frame(TYPED, &vec![b't'; length - 12]));
+        // Booleans, beside metadata that fills the row up.
+        let element = frame(PLACE, &frame(TYPED, &[1]));
+        let names = 300 + (length - 309) % element.len();
+        let list = frame(TYPED, &element.repeat((length - 9 - names) / element.len()));
+        add(frame(0x20, &frame(0x10, &[1])), &rows::long_metadata(names), &list);
+    }
+    for count in [64, 256, 1_024, 2_048].into_iter().flat_map(around) {
+        // Names that fall, all used by one leftover.
+        let names: Vec<_> =
+            (0..count).rev().map(|number| (number as u16).to_be_bytes().to_vec()).collect();
+        let doc = docs::object(names.iter().map(|name| (name.clone(), Doc::Null)).collect());
+        let (names, mut rng) = (Names::of(names), Rng::new(1));
+        let leftover = Encoder::plain(&names).value(&mut rng, &doc);
+        add(frame(0, &[]), &names.metadata(&mut rng), &frame(LEFTOVER, &leftover));
+    }
+    cases
+}
+
 /// Cells of every code at small lengths, in a row.
 fn cells_in_rows(op: Op) -> Vec<Case> {
     let mut cases = Vec::new();
@@ -333,6 +364,15 @@ mod tests {
                 }
             }
         }
+    }
+
+    #[test]
+    fn rows_of_these_sizes_are_lawful() {
+        let cases = sizes(Op::Judge);
+        let lengths: BTreeSet<usize> =
+            cases.iter().map(|case| parts::inputs(case)[1].len()).collect();
+        assert!((1_023..=1_025).chain(16_383..=16_385).all(|length| lengths.contains(&length)));
+        assert!(cases.iter().all(|case| answer(case).number() == 0));
     }
 
     #[test]

@@ -70,10 +70,10 @@ fn length(case: &Case) -> usize {
 pub fn timed(op: Op) -> Vec<Timed> {
     match op {
         Op::Cell => cells(),
-        Op::Judge => {
+        Op::Judge | Op::Rebuild => {
             // Shredding writes one row for all layouts of a document.
             let documents = shapes().into_iter().filter(|shape| !shape.is_odd());
-            documents.filter_map(|shape| on_shape(op, shape)).chain(rows::rows()).collect()
+            documents.filter_map(|shape| on_shape(op, shape)).chain(rows::rows(op)).collect()
         }
         _ => shapes().into_iter().filter_map(|shape| on_shape(op, shape)).collect(),
     }
@@ -87,15 +87,10 @@ fn on_shape(op: Op, Shape { name, doc, metadata, value, .. }: Shape) -> Option<T
         Op::Find => Case::Find { metadata, value, path: middle(&doc) },
         Op::Normalise => Case::Normalise { metadata, value, rooms },
         Op::Shred => Case::Shred { schema: schema(), metadata, value, room: limits::ROW },
-        Op::Rebuild => {
+        Op::Rebuild | Op::Judge => {
             let schema = schema();
             let row = operations::shredded(&schema, &metadata, &value).ok()?;
-            Case::Rebuild { schema, row, rooms }
-        }
-        Op::Judge => {
-            let schema = schema();
-            let row = operations::shredded(&schema, &metadata, &value).ok()?;
-            Case::Judge { schema, row }
+            parts::on_row(op, schema, row)?
         }
         Op::Box => Case::Box { metadata, value },
         Op::Cell => return None,

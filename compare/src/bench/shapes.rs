@@ -68,7 +68,7 @@ pub fn shapes() -> Vec<Shape> {
     let mut shapes = Vec::new();
     let with_names = [
         ("small parcel", parcel(7)),
-        ("full parcels", filled(|number| parcel(number * 37))),
+        ("full parcels", full_parcels()),
         ("small flat object", flat(29)),
         ("full flat object", flat(2_150)),
         ("small nest of objects", nested_objects(15)),
@@ -143,6 +143,11 @@ fn parcel(number: usize) -> Made {
         field("south", double(degrees)),
         field("west", double(degrees)),
     ])
+}
+
+/// As many parcels as a value may hold.
+pub fn full_parcels() -> Made {
+    filled(|number| parcel(number * 37))
 }
 
 fn flat(count: usize) -> Made {

@@ -39,16 +39,14 @@ fn written(text: &[u8], length: usize, bytes: &[u8], given: &[u8]) {
     }
 }
 
-// A document normalised into two buffers: the lengths written or needed, and whether the buffers then hold what is given.
-fn normalise_into(
-    metadata: &[u8],
-    value: &[u8],
-    metadata_out: &mut [u8],
-    value_out: &mut [u8],
+// A document written into two buffers: the lengths written or needed, and whether the buffers now hold what is given.
+fn document(
+    answer: DocumentAnswer,
+    metadata_out: &[u8],
+    value_out: &[u8],
     metadata_given: &[u8],
     value_given: &[u8],
 ) {
-    let answer = register::normalise(metadata, value, metadata_out, value_out);
     match answer {
         DocumentAnswer::Done {
             metadata: first,
@@ -68,10 +66,37 @@ fn normalise_into(
     }
 }
 
-// The lengths of the two buffers are given, a byte each.
+// A document normalised into two buffers.
 fn normalise(
     metadata: &[u8],
     value: &[u8],
+    metadata_out: &mut [u8],
+    value_out: &mut [u8],
+    metadata_given: &[u8],
+    value_given: &[u8],
+) {
+    let answer = register::normalise(metadata, value, metadata_out, value_out);
+    document(answer, metadata_out, value_out, metadata_given, value_given);
+}
+
+// A row's document rebuilt into two buffers.
+fn rebuild(
+    schema: &[u8],
+    row: &[u8],
+    metadata_out: &mut [u8],
+    value_out: &mut [u8],
+    metadata_given: &[u8],
+    value_given: &[u8],
+) {
+    let answer = register::rebuild(schema, row, metadata_out, value_out);
+    document(answer, metadata_out, value_out, metadata_given, value_given);
+}
+
+// Lays out two buffers, whose lengths are given, a byte each, for a row's document or for a document's normal form.
+fn into_buffers(
+    of_row: bool,
+    a: &[u8],
+    b: &[u8],
     rooms: &[u8],
     metadata_given: &[u8],
     value_given: &[u8],
@@ -80,9 +105,19 @@ fn normalise(
     let mut value_out = [0u8; 256];
     let m = reading::room(rooms, 0, &metadata_out);
     let v = reading::room(rooms, 1, &value_out);
-    normalise_into(
-        metadata,
-        value,
+    if of_row {
+        return rebuild(
+            a,
+            b,
+            &mut metadata_out[..m],
+            &mut value_out[..v],
+            metadata_given,
+            value_given,
+        );
+    }
+    normalise(
+        a,
+        b,
         &mut metadata_out[..m],
         &mut value_out[..v],
         metadata_given,
@@ -121,7 +156,10 @@ fn answer(line: &[u8], a: &[u8], b: &[u8], c: &[u8], d: &[u8], e: &[u8]) {
         return find(a, b, c);
     }
     if reading::begins(line, b"normalise") {
-        return normalise(a, b, c, d, e);
+        return into_buffers(false, a, b, c, d, e);
+    }
+    if reading::begins(line, b"rebuild") {
+        return into_buffers(true, a, b, c, d, e);
     }
     if reading::begins(line, b"cell") {
         return cell(a, b);

@@ -1,7 +1,8 @@
 //! Rows of every kind, each with its schema: lawful, unlawful, unparsed, harmed, at a limit and past it.
 
 use super::damage::damage;
-use super::docs::{self, Made};
+use super::docs;
+use super::large;
 use super::pieces::{harm, HARMS};
 use super::places::{self, left, typed};
 use super::rng::Rng;
@@ -10,7 +11,6 @@ use super::rules::{Plan, RULES};
 use super::schemas::{self, encoded, schema_for, MadeNode};
 use super::{good_variant, many_places, Variant};
 use crate::bytes::push_frame;
-use crate::doc::Doc;
 use crate::limits;
 use crate::operations;
 use crate::refusal::Rule;
@@ -58,8 +58,8 @@ pub enum Kind {
 /// Every kind, and how often of a hundred.
 pub const KINDS: [(usize, Kind); 13] = [
     (14, Kind::Shredded),
-    (22, Kind::Lawful),
-    (1, Kind::Large),
+    (21, Kind::Lawful),
+    (2, Kind::Large),
     (2, Kind::AtLimit),
     (22, Kind::Unlawful),
     (9, Kind::Unparsed),
@@ -83,7 +83,7 @@ pub fn of(kind: Kind, rng: &mut Rng) -> Lent {
     match kind {
         Kind::Shredded => shredded(rng),
         Kind::Lawful => lawful(rng),
-        Kind::Large => large(rng),
+        Kind::Large => large::any(rng),
         Kind::AtLimit => at_limit(rng),
         Kind::Unlawful => {
             let rule = rng.pick(&RULES);
@@ -121,7 +121,8 @@ fn spoiled(rng: &mut Rng, spoil: impl FnOnce(&mut Rng, &mut Vec<u8>)) -> Lent {
     lent
 }
 
-fn lent(rng: &mut Rng, plan: &Plan) -> Lent {
+/// The schema of a plan, and a row of it.
+pub fn lent(rng: &mut Rng, plan: &Plan) -> Lent {
     Lent { schema: encoded(&plan.node), row: written(rng, plan, None) }
 }
 
@@ -232,23 +233,12 @@ fn both(rng: &mut Rng, side: Side) -> Lent {
     }
 }
 
-fn text(length: usize) -> Made {
-    Doc::Text(vec![b'l'; length].into())
-}
-
-/// A row whose normal value is too large, or nearly so.
-fn large(rng: &mut Rng) -> Lent {
-    let column = Node::Primitive(16);
-    let (node, place) = match rng.below(3) {
-        0 => (column, typed(Typed::Primitive(text(limits::VALUE - 5 + rng.below(3))))),
-        1 => (column, typed(Typed::Primitive(text(rng.between(20_000, limits::ROW - 2_000))))),
-        _ => {
-            let item = || typed(Typed::Primitive(text(500)));
-            let items = (0..rng.between(15, 40)).map(|_| item()).collect();
-            (Node::List(Box::new(column)), typed(Typed::List(items)))
-        }
-    };
-    lent(rng, &Plan::new(node, place))
+/// A row of this metadata and what its outermost place holds.
+pub fn row_of(metadata: &[u8], place: &[u8]) -> Vec<u8> {
+    let mut row = Vec::new();
+    push_frame(&mut row, METADATA, metadata);
+    push_frame(&mut row, PLACE, place);
+    row
 }
 
 /// A row of which one part is at its limit, or one past it: the row, its metadata, a leftover, the
@@ -275,10 +265,7 @@ fn at_limit(rng: &mut Rng) -> Lent {
             return deep_row(rng, inner, levels - inner);
         }
     }
-    let mut row = Vec::new();
-    push_frame(&mut row, METADATA, &metadata);
-    push_frame(&mut row, PLACE, &place);
-    Lent { schema, row }
+    Lent { schema, row: row_of(&metadata, &place) }
 }
 
 /// Lists so many levels deep around a leftover, whose innermost value is so many levels deep again.
@@ -380,16 +367,6 @@ mod tests {
                 assert!(number(&lent) == 6 || lent.row.len() > limits::ROW, "{side:?}");
             }
         }
-    }
-
-    #[test]
-    fn large_rows_are_on_both_sides_of_the_limit() {
-        let mut rng = Rng::new(25);
-        let refused = (0..60).filter(|_| {
-            let Lent { schema, row } = large(&mut rng);
-            operations::rebuilt(&schema, &row) == Err(Refusal::TooLarge)
-        });
-        assert!((10..50).contains(&refused.count()));
     }
 
     fn fields_of(node: &MadeNode) -> usize {

@@ -4,6 +4,7 @@ pub mod damage;
 pub mod docs;
 pub mod encode;
 pub mod kinds;
+pub mod large;
 pub mod pieces;
 pub mod places;
 pub mod rng;

@@ -182,10 +182,20 @@ fn dictionary(rng: &mut Rng, plan: &Plan) -> Names {
 /// Writes a row, with a fault at the place of this number.
 pub fn written(rng: &mut Rng, plan: &Plan, fault: Option<(Fault, usize)>) -> Vec<u8> {
     let names = dictionary(rng, plan);
+    written_under(rng, &names, plan, fault)
+}
+
+/// Writes a row under a dictionary that has each name that the plan needs.
+pub fn written_under(
+    rng: &mut Rng,
+    names: &Names,
+    plan: &Plan,
+    fault: Option<(Fault, usize)>,
+) -> Vec<u8> {
     let (metadata, mut row) = (names.metadata(rng), Vec::new());
     push_short(&mut row, METADATA, &metadata);
     let dictionary = Dictionary::read(&metadata).expect("good metadata");
-    let mut writer = Writer { names: &names, dictionary, fault, next: 0 };
+    let mut writer = Writer { names, dictionary, fault, next: 0 };
     writer.place(rng, &plan.node, &plan.place, 1, &mut row);
     row
 }
