@@ -24,8 +24,8 @@ use Rattle.rows.specs.declared.judging.RowParts.{RowParts}
 use Rattle.writing.specs.Ends.{EndsAt}
 use Rattle.rebuild.proofs.NumberedLaws.{outermost-short}
 use Rattle.rebuild.specs.Rebuilding.{Numbered, TriedAs, told, noRoom}
-use Rattle.rebuild.specs.declared.Tried.the-variants.{Told, NoRoom}
-use Rattle.rebuild.specs.declared.Tried.{Tried}
+use Rattle.rebuild.specs.declared.rooms.Tried.the-variants.{Told, NoRoom}
+use Rattle.rebuild.specs.declared.rooms.Tried.{Tried}
 
 -- ---- which tables and floor suffice
 

@@ -23,8 +23,8 @@ use Rattle.rebuilt.specs.There.{Numbered as NumberedIds}
 use Rattle.rebuilt.specs.Using.{placeIds}
 use Rattle.rows.specs.Judging.{metadataOf, outermostOf, HandedOn}
 use Rattle.rows.specs.declared.judging.RowParts.{RowParts}
-use Rattle.rebuild.specs.declared.Tried.{Tried}
-use Rattle.rebuild.specs.declared.Tried.the-variants.{Told, NoRoom}
+use Rattle.rebuild.specs.declared.rooms.Tried.{Tried}
+use Rattle.rebuild.specs.declared.rooms.Tried.the-variants.{Told, NoRoom}
 
 -- A row that was judged lawful under a good schema, with what its judge hands on.
 pub record Judged (schema row table : List ℕ) (parts : RowParts) : Type 0 where

@@ -16,9 +16,12 @@ rank-requires c κs = let pre = c .before .before .before .before .before .befor
 with-room-requires : tie.Need-with-room-requires
 unfolding readings
 with-room-requires c κs =
-    let pre = c .before .before .before .before .before .before .before .before .before .before .before .before .before .before .before .before .before .before .before .before .before .before .before .before .before .before .before .before .pre in (
+    let ranked = c .before .before .before .before .before .before .before .before .before in
+    let placed = ranked .before .before .before .before .before .before .before in
+    let known = placed .before .before .before .before .before .before .before .before .before .before in
+    let pre = known .before .before .pre in (
       readings-all,
-      numbered (pre .0) (λ i. omega (arith, c .before .before .before .before .before .before .before .before .before .before .before .before .before .before .before .before .before .before .before .before .before .before .before .before .before .before .shared-slice-known2 .given i)) (c .before .before .before .before .before .before .before .before .before .before .before .before .before .before .before .before .place .ensures) (pre .4) (pre .1) (c .before .before .before .before .before .before .before .before .before .rank .ensures) (search needs) (search needs),
+      numbered (pre .0) (λ i. omega (arith, known .shared-slice-known2 .given i)) (placed .place .ensures) (pre .4) (pre .1) (ranked .rank .ensures) (search needs) (search needs),
     )
 
 pub with-tables-spec : {M : Type 1} → statement M

@@ -2,8 +2,8 @@
 use native.Mathlib.Omega.{arith}
 use borrow.Author.Needs.{needs}
 use Rattle.rebuild.proofs.RoomLaws.{long-enough, tried-told, tried-large}
-use Rattle.rebuild.proofs.in_long_room.Statement.{statement}
-use Rattle.rebuild.proofs.in_long_room.Tie as tie
+use Rattle.rebuild.proofs.rooms.in_long_room.Statement.{statement}
+use Rattle.rebuild.proofs.rooms.in_long_room.Tie as tie
 
 write-out-requires : tie.Need-write-out-requires
 write-out-requires c κs =

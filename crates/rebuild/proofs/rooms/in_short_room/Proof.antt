@@ -2,8 +2,8 @@
 use native.Mathlib.Omega.{arith}
 use borrow.Author.Needs.{needs}
 use Rattle.rebuild.proofs.RoomLaws.{short-enough}
-use Rattle.rebuild.proofs.in_short_room.Statement.{statement}
-use Rattle.rebuild.proofs.in_short_room.Tie as tie
+use Rattle.rebuild.proofs.rooms.in_short_room.Statement.{statement}
+use Rattle.rebuild.proofs.rooms.in_short_room.Tie as tie
 
 write-out-requires : tie.Need-write-out-requires
 write-out-requires c κs =

@@ -3,8 +3,8 @@ use native.Mathlib.Omega.{arith}
 use borrow.Author.Needs.{needs}
 use Rattle.rebuild.proofs.NumberedLaws.{place-ready, value-put}
 use Rattle.rebuild.proofs.RoomLaws.{put-starts, put-answers, put-nowhere}
-use Rattle.rebuild.proofs.write_out.Statement.{statement}
-use Rattle.rebuild.proofs.write_out.Tie as tie
+use Rattle.rebuild.proofs.rooms.write_out.Statement.{statement}
+use Rattle.rebuild.proofs.rooms.write_out.Tie as tie
 
 place-requires : tie.Need-place-requires
 place-requires c κs =

@@ -1,8 +1,8 @@
 -- `for_short_row`: where the short room does not suffice nothing has been touched, so the long room answers.
 use borrow.Author.Needs.{needs}
 use Rattle.rebuild.proofs.RoomLaws.{tried-told, tried-again}
-use Rattle.rebuild.proofs.for_short_row.Statement.{statement}
-use Rattle.rebuild.proofs.for_short_row.Tie as tie
+use Rattle.rebuild.proofs.rooms.for_short_row.Statement.{statement}
+use Rattle.rebuild.proofs.rooms.for_short_row.Tie as tie
 
 returns : tie.Need-returns
 returns c = tried-told (c .before .before .before .before .before .before .before .in-short-room .ensures) (c .before .tried .given .1)

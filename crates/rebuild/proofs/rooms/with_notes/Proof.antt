@@ -1,8 +1,8 @@
 -- `with_notes`: the tables have an entry for each byte of the row.
 use native.Mathlib.Omega.{arith}
 use borrow.Author.Needs.{needs}
-use Rattle.rebuild.proofs.with_notes.Statement.{statement}
-use Rattle.rebuild.proofs.with_notes.Tie as tie
+use Rattle.rebuild.proofs.rooms.with_notes.Statement.{statement}
+use Rattle.rebuild.proofs.rooms.with_notes.Tie as tie
 
 in-long-room-requires-2 : tie.Need-in-long-room-requires-2
 in-long-room-requires-2 c κs =
