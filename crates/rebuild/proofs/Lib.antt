@@ -2,3 +2,4 @@
 pub mod MeaningLaws
 pub mod NumberedLaws
 pub mod RoomLaws
+pub mod LeftoverLaws

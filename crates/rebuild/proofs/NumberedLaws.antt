@@ -56,10 +56,10 @@ module _ {schema row table : List ℕ} {parts : RowParts} (judged : Judged schem
   abbrev Names : Dictionary
   Names = namesIn (metadataOf row parts)
 
-  place-lawful : (node : Schema) → schemaOf schema ≡ some node → placeVerdict node mostLevels Names (outermostOf row parts) ≡ Lawful
+  pub place-lawful : (node : Schema) → schemaOf schema ≡ some node → placeVerdict node mostLevels Names (outermostOf row parts) ≡ Lawful
   place-lawful node is = judged .handed .in-order .comes-to node ∙ judged .lawful node is
 
-  row-there : PlaceThere mostLevels Names schema table 0 (outermostOf row parts)
+  pub row-there : PlaceThere mostLevels Names schema table 0 (outermostOf row parts)
   row-there =
       let got = there-some (schemaOf schema) (judged .good) in
       record {

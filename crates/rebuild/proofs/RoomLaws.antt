@@ -8,7 +8,7 @@ use Rattle.building.specs.Building.{Enough}
 use Rattle.normalise.proofs.AnswerLaws.{answer-large}
 use Rattle.normalise.proofs.NumberedLaws.{last-bytes}
 use Rattle.normalise.specs.Answered.{Answered}
-use Rattle.paper.specs.Limits.{mostLeftover, mostValue}
+use Rattle.paper.specs.Limits.{mostLeftover, mostRow, mostValue}
 use Rattle.paper.specs.Meaning.{Doc}
 use Rattle.paper.specs.Metadata.{Dictionary}
 use Rattle.paper.specs.Normal.{namesUsed, normalForm}
@@ -16,7 +16,8 @@ use Rattle.paper.specs.Operations.{written}
 use Rattle.paper.specs.declared.DocumentAnswer.the-variants.{Refused}
 use Rattle.paper.specs.declared.DocumentAnswer.{DocumentAnswer}
 use Rattle.paper.specs.declared.Refusal.the-variants.{TooLarge}
-use Rattle.putting.specs.Put.{PutAs, put, full}
+use Rattle.putting.proofs.PutLaws.{told-here, told-full}
+use Rattle.putting.specs.Put.{PutAs}
 use Rattle.putting.specs.declared.Put.the-variants.{At, Full}
 use Rattle.putting.specs.declared.Put.{Put}
 use Rattle.rows.specs.Judging.{outermostOf}
@@ -31,9 +32,9 @@ use Rattle.rebuild.specs.declared.rooms.Tried.{Tried}
 
 module _ {schema row table : List ℕ} {parts : RowParts} {ranks chosen : List ℕ} {count : ℕ} (n : Numbered schema row table parts ranks chosen count) where
   -- A floor at twice a short row's length.
-  pub short-enough : {places ids floor : ℕ} → length row ≤ 1024 → 1024 ≤ places → 1024 ≤ ids → 2048 ≤ floor
+  pub short-enough : (most : ℕ) → length row ≤ most → most ≤ mostRow → {places ids floor : ℕ} → most ≤ places → most ≤ ids → 2 * most ≤ floor
       → Enough (length (outermostOf row parts)) places ids floor
-  short-enough short places ids high =
+  short-enough most short least places ids high =
       let within = outermost-short row parts in
       record { small = omega arith; places-room = omega arith; ids-room = omega arith; high = λ n h k. omega arith }
 
@@ -47,20 +48,9 @@ module _ {schema row table : List ℕ} {parts : RowParts} {ranks chosen : List �
 
 -- ---- what was put
 
-pub put-at : {bytes before after : List ℕ} {floor end : ℕ} {r : Put} → PutAs bytes before after floor end r → {start : ℕ} → r ≡ At start
-    → (floor ≤ start) × EndsAt bytes before after end start
-put-at {bytes} {before} {after} {floor} {end} (put own above ends) {start} e =
-    let same : own ≡ start = cc in
-    subst (λ (s : ℕ). (floor ≤ s) × EndsAt bytes before after end s) same (above, ends)
-put-at (full long) e = absurd (let z : _≡_ {A = ℕ} 0 1 = cc in omega arith)
-
-pub put-full : {bytes before after : List ℕ} {floor end : ℕ} {r : Put} → PutAs bytes before after floor end r → r ≡ Full → end < floor + length bytes
-put-full (put own above ends) e = absurd (let z : _≡_ {A = ℕ} 0 1 = cc in omega arith)
-put-full (full long) e = long
-
 -- It starts inside.
 pub put-starts : {bytes before after : List ℕ} {floor end : ℕ} {r : Put} → PutAs bytes before after floor end r → {start : ℕ} → r ≡ At start → start ≤ end
-put-starts at e = let size = put-at at e .1 .size in omega arith
+put-starts at e = let size = told-here at e .1 .size in omega arith
 
 module _ {d : Doc} {before after : List ℕ} {floor : ℕ} {r : Put} (at : PutAs (normalForm d .value) before after floor (length before) r) where
   pub put-answers : {start : ℕ} → r ≡ At start → {names : Dictionary} → names ≡ namesUsed d
@@ -68,10 +58,10 @@ module _ {d : Doc} {before after : List ℕ} {floor : ℕ} {r : Put} (at : PutAs
       → ((d : Doc) → names ≡ namesUsed d → take (length before - start) (drop start after) ≡ normalForm d .value
       → Answered (written d) first first′ second second′ a)
       → TriedAs d first first′ second second′ (length before) floor (Told a)
-  put-answers e used {a = a} answers = told a (answers d used (last-bytes (put-at at e .1)))
+  put-answers e used {a = a} answers = told a (answers d used (last-bytes (told-here at e .1)))
 
   pub put-nowhere : r ≡ Full → {first second : List ℕ} → TriedAs d first first second second (length before) floor NoRoom
-  put-nowhere e = noRoom (put-full at e) refl refl
+  put-nowhere e = noRoom (told-full at e) refl refl
 
 -- ---- what was tried
 

@@ -63,3 +63,9 @@ pub data TriedAs (d : Doc) (metadata₀ metadata value₀ value : List ℕ) (roo
       → TriedAs d metadata₀ metadata value₀ value room floor (Told answer)
   noRoom : room < floor + length (normalForm d .value) → metadata ≡ metadata₀ → value ≡ value₀
       → TriedAs d metadata₀ metadata value₀ value room floor NoRoom
+
+-- The same of some room.
+pub record SomeTried (d : Doc) (metadata₀ metadata value₀ value : List ℕ) (tried : Tried) : Type 0 where
+  pub room : ℕ
+  pub floor : ℕ
+  pub was : TriedAs d metadata₀ metadata value₀ value room floor tried

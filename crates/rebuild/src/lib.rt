@@ -16,6 +16,7 @@ ghost use Rattle.paper.specs.Schemas.{Schema, schemaOf};
 ghost use Rattle.rebuild.specs.Rebuilding.{Judged, rowDoc};
 use crate::rooms::with_room;
 use paper::DocumentAnswer;
+use places::Parts;
 use rows::RowParts;
 
 // Numbers the names that the row uses, in tables that have an entry for each name of its dictionary.
@@ -106,8 +107,8 @@ fn for_more_names(
     )
 }
 
-// Writes the document of a lawful row in its normal form. The tables go by the number of names in the row's dictionary.
-pub fn rebuild(
+// Writes by way of tables, which go by the number of names in the row's dictionary.
+fn by_tables(
     schema: &[u8],
     row: &[u8],
     parts: RowParts,
@@ -116,7 +117,7 @@ pub fn rebuild(
     value_out: &mut [u8],
 ) -> DocumentAnswer
     requires { ⌜ Judged (now schema) (now row) (now table) parts ⌝ }
-    ensures { λ r. ⌜ ((node : Schema) (parsed : Row) → schemaOf (now (schema .entry)) ≡ some node → rowOf node (now (row .entry)) ≡ some parsed → Answered (written (rowMeaning node parsed)) (now («metadata_out» .entry)) (now («metadata_out» .exit)) (now («value_out» .entry)) (now («value_out» .exit)) r) ⌝ }
+    ensures { λ r. ⌜ Answered (written (rowDoc (now (schema .entry)) (now (row .entry)) parts)) (now («metadata_out» .entry)) (now («metadata_out» .exit)) (now («value_out» .entry)) (now («value_out» .exit)) r ⌝ }
 {
     let names = parts.names;
     if names.count <= 64 {
@@ -136,4 +137,34 @@ pub fn rebuild(
         );
     }
     for_more_names(schema, row, parts, table, metadata_out, value_out)
+}
+
+// Writes the document of a lawful row in its normal form. A row that is a leftover alone is that document, under the row's
+// metadata.
+pub fn rebuild(
+    schema: &[u8],
+    row: &[u8],
+    parts: RowParts,
+    table: &[u16],
+    metadata_out: &mut [u8],
+    value_out: &mut [u8],
+) -> DocumentAnswer
+    requires { ⌜ Judged (now schema) (now row) (now table) parts ⌝ }
+    ensures { λ r. ⌜ ((node : Schema) (parsed : Row) → schemaOf (now (schema .entry)) ≡ some node → rowOf node (now (row .entry)) ≡ some parsed → Answered (written (rowMeaning node parsed)) (now («metadata_out» .entry)) (now («metadata_out» .exit)) (now («value_out» .entry)) (now («value_out» .exit)) r) ⌝ }
+{
+    let middle = parts.middle;
+    let inner = middle + 3;
+    let last = row.len();
+    let outermost = &row[inner..last];
+    let Parts::Leftover = places::split(outermost) else {
+        return by_tables(schema, row, parts, table, metadata_out, value_out);
+    };
+    let to = outermost.len();
+    normalise::normalise(
+        &row[3..middle],
+        parts.names,
+        &outermost[3..to],
+        metadata_out,
+        value_out,
+    )
 }

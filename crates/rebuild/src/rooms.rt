@@ -8,7 +8,7 @@ ghost use Rattle.normalise.specs.Answered.{Answered};
 ghost use Rattle.paper.specs.Bounds.{mostWalked};
 ghost use Rattle.paper.specs.Operations.{written};
 ghost use Rattle.rows.specs.Judging.{outermostOf};
-ghost use Rattle.rebuild.specs.Rebuilding.{Numbered, TriedAs, rowDoc};
+ghost use Rattle.rebuild.specs.Rebuilding.{Numbered, TriedAs, SomeTried, rowDoc};
 use normalise::hand_out;
 use paper::DocumentAnswer;
 use paper::Refusal;
@@ -74,7 +74,7 @@ fn write_out(
     Tried::Told(answer)
 }
 
-// Tries a short room, for a short row.
+// Tries a short room, for a short row; for one of a few bytes a still shorter one.
 fn in_short_room(
     readings: &[u8],
     schema: &[u8],
@@ -88,8 +88,29 @@ fn in_short_room(
     value_out: &mut [u8],
 ) -> Tried
     requires { ⌜ Readings (now readings) × Numbered (now schema) (now row) (now table) parts (now ranks) (now chosen) count × (length (now row) ≤ 1024) ⌝ }
-    ensures { λ r. ⌜ TriedAs (rowDoc (now (schema .entry)) (now (row .entry)) parts) (now («metadata_out» .entry)) (now («metadata_out» .exit)) (now («value_out» .entry)) (now («value_out» .exit)) 6144 2048 r ⌝ }
+    ensures { λ r. ⌜ SomeTried (rowDoc (now (schema .entry)) (now (row .entry)) parts) (now («metadata_out» .entry)) (now («metadata_out» .exit)) (now («value_out» .entry)) (now («value_out» .exit)) r ⌝ }
 {
+    if row.len() <= 128 {
+        let mut places = [0u16; 128];
+        let mut ids = [0u8; 128];
+        let mut room = [0u8; 1024];
+        return write_out(
+            readings,
+            schema,
+            row,
+            parts,
+            table,
+            ranks,
+            chosen,
+            count,
+            &mut places,
+            &mut ids,
+            &mut room,
+            256,
+            metadata_out,
+            value_out,
+        );
+    }
     let mut places = [0u16; 1024];
     let mut ids = [0u8; 1024];
     let mut room = [0u8; 6144];
