@@ -107,9 +107,12 @@ compared: tools library
 compare: tools library
 	@compare/target/release/compare run --count $(N) --seed $(SEED)
 
+# Times under an emulator say nothing: there the library is compiled for this machine, to be timed alone.
 ifdef SERVED
 bench: tools
-	@echo "bench: times under an emulator say nothing. This machine is $(MACHINE); bench runs on x86_64 alone"; exit 1
+	@tools/native-archive
+	@TANVELIS_NATIVE=1 TANVELIS_LIB=../target/native CARGO_TARGET_DIR=compare/target/native cargo build -q --release --manifest-path compare/Cargo.toml 2>&1 | { grep -v "not a recognized processor" || true; }
+	@compare/target/native/release/compare bench
 else
 bench: tools library
 	@compare/target/release/compare bench

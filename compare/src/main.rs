@@ -113,8 +113,8 @@ fn run_bench(options: &[&str]) -> Done {
     let Asked { ops, rounds, .. } = asked(options, &["--op", "--rounds"])?;
     if !ops.is_empty() && !boundary::IS_LINKED {
         return Err(format!(
-            "no timings: this machine ({}) runs the library under an emulator, whose times say \
-             nothing; they are taken on x86_64",
+            "no timings: on this machine ({}) the library runs under an emulator, whose times say \
+             nothing; `make bench` compiles it for this machine",
             std::env::consts::ARCH
         ));
     }
