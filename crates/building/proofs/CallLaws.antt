@@ -1,10 +1,10 @@
 -- One member of an object: what the calls on it ask, and what was put is its bytes.
-use mathlib.Core.List.{List, [], _∷_}
+use mathlib.Core.List.{List}
 use mathlib.Core.Option.{Option, none, some, Option·some-injective as some-injective}
-use mathlib.Core.Path.{_≡_, refl, sym, ap, subst, _∙_}
-use Prim.Native.Nat.{ℕ, _+_, _-_, _*_, _≤_, _<_}
+use mathlib.Core.Path.{_≡_, refl, sym, ap, _∙_}
+use Prim.Native.Nat.{ℕ, _+_, _-_, _≤_, _<_}
 use native.Mathlib.Omega.{arith}
-use lib.ListN.{length, take, drop}
+use lib.ListN.{length}
 use Rattle.containers.proofs.ChildLaws.{extent-fits}
 use Rattle.forms.proofs.LieLaws.{child-length}
 use Rattle.frames.specs.declared.Frame.the-variants.{Ends, Cut}
@@ -14,7 +14,7 @@ use Rattle.heads.specs.declared.Extent.the-variants.{Size, Unknown}
 use Rattle.heads.specs.declared.Extent.{Extent}
 use Rattle.paper.specs.Bounds.{mostWalked}
 use Rattle.paper.specs.Schemas.{Schema}
-use Rattle.paper.specs.Values.{Child, childExtent, childBytes}
+use Rattle.paper.specs.Values.{childExtent, childBytes}
 use Rattle.paper.specs.Words.{part}
 use Rattle.places.proofs.StepLaws.{place-cut, place-ends, place-fits}
 use Rattle.places.specs.Frames.{placeEnd, placeFrame}

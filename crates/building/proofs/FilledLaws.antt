@@ -1,13 +1,13 @@
 -- What a lawful place is rebuilt to is one value: it fills its bytes.
-use mathlib.Core.Bool.{Bool, true, false, cond, not, _&&_, _||_}
+use mathlib.Core.Bool.{Bool, true, false, cond, _&&_, _||_}
 use mathlib.Core.List.{List, [], _∷_, map}
-use mathlib.Core.Option.{Option, none, some, Option·some-injective as some-injective}
-use mathlib.Core.Path.{_≡_, refl, sym, ap, subst, _∙_}
-use Prim.Native.Nat.{ℕ, _+_, _-_, _^_, _≤_, _<_}
+use mathlib.Core.Option.{some, Option·some-injective as some-injective}
+use mathlib.Core.Path.{_≡_, refl, sym, _∙_}
+use Prim.Native.Nat.{ℕ, _-_, _^_, _≤_, _<_}
 use native.Mathlib.Omega.{arith}
-use borrow.Author.Tests.{le-leb, lt-leb, leb-true, leb-false, eqb-true, eqb-false, ne-eqb}
+use borrow.Author.Tests.{le-leb, leb-true, eqb-true, eqb-false, ne-eqb}
 use lib.Dec.{leb, eqb}
-use lib.ListN.{length, getD, length-map, length-take, length-drop}
+use lib.ListN.{length, getD, length-map}
 use Rattle.forms.proofs.ContainerLaws.{array-filled, object-filled}
 use Rattle.forms.proofs.ScalarLaws.{Filled, null-written, scalar-written}
 use Rattle.forms.specs.WellFormed.{scalarGood}
@@ -15,20 +15,19 @@ use Rattle.paper.proofs.WordLaws.{never, given-some, some-there, there-some}
 use Rattle.paper.specs.Bounds.{mostWalked}
 use Rattle.paper.specs.Cells.{yesNo, string, binary, sized, bodyKind, cellBy, cellMeaning}
 use Rattle.paper.specs.FirstBytes.{payloadSizes}
-use Rattle.paper.specs.Meaning.{Scalar, boolean, payload, text, textMeaning}
+use Rattle.paper.specs.Meaning.{Scalar, payload, textMeaning}
 use Rattle.paper.specs.Metadata.{Dictionary}
-use Rattle.paper.specs.Normal.{arrayBytes, objectBytes}
-use Rattle.paper.specs.Schemas.{Column, Schema, leftoverOnly, column, list, fields, columnCode}
-use Rattle.paper.specs.Words.{at, part, given, isThere}
+use Rattle.paper.specs.Schemas.{Schema, leftoverOnly, column, list, fields, columnCode}
+use Rattle.paper.specs.Words.{at, part}
 use Rattle.paper.specs.Values.{meaningOf}
 use Rattle.places.specs.Parts.{partsOf}
 use Rattle.places.specs.declared.parts.Parts.the-variants.{Empty, Leftover, Typed, Both, Unframed}
 use Rattle.places.specs.declared.parts.Parts.{Parts}
 use Rattle.rebuilt.proofs.CellLaws.{cell-is}
 use Rattle.rebuilt.proofs.PartwiseLaws.{place-is-typed}
-use Rattle.rebuilt.proofs.ThereLaws.{LeftThere, place-leftover, place-only, place-behind, place-framed, typed-never, typed-code, typed-cell}
+use Rattle.rebuilt.proofs.ThereLaws.{place-leftover, place-only, place-behind, place-framed, typed-never, typed-code, typed-cell}
 use Rattle.rebuilt.specs.Members.{Member, noLeft, objectOf}
-use Rattle.rebuilt.specs.Rebuilt.{cellValue, rebuiltBy, placeRebuilt, typedRebuilt}
+use Rattle.rebuilt.specs.Rebuilt.{rebuiltBy, placeRebuilt, typedRebuilt}
 use Rattle.rebuilt.specs.There.{PlaceThere, TypedThere}
 use Rattle.schemas.proofs.KindLaws.{kind-is}
 use Rattle.schemas.specs.Kinds.{kindOf, kindAt}

@@ -1,11 +1,11 @@
 -- A leftover whose ids are numbered is written in at most twice its bytes, so the floor is high enough for it.
 use mathlib.Core.Bool.{true}
-use mathlib.Core.List.{List, []}
+use mathlib.Core.List.{List}
 use mathlib.Core.Option.{some}
-use mathlib.Core.Path.{_≡_, sym, ap, subst, _∙_}
+use mathlib.Core.Path.{_≡_, sym, ap, _∙_}
 use Prim.Native.Nat.{ℕ, _*_, _≤_}
 use native.Mathlib.Omega.{arith}
-use lib.ListN.{length, getD}
+use lib.ListN.{length}
 use Rattle.forms.proofs.GrowthLaws.{value-grows}
 use Rattle.forms.proofs.NamesLaws.{used-there}
 use Rattle.marking.proofs.UsedIdLaws.{ids-used}
@@ -15,7 +15,7 @@ use Rattle.paper.specs.Limits.{mostLeftover}
 use Rattle.paper.specs.Meaning.{Doc}
 use Rattle.paper.specs.Metadata.{Dictionary}
 use Rattle.paper.specs.Normal.{valueBytes}
-use Rattle.paper.specs.Values.{meaningOf, namesAt}
+use Rattle.paper.specs.Values.{meaningOf}
 use Rattle.paper.specs.Words.{among}
 use Rattle.paper.proofs.WordLaws.{some-there}
 use Rattle.putting.specs.Put.{Leftover}

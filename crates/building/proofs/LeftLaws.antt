@@ -1,13 +1,13 @@
 -- A leftover object's members and the notes of them, in step: each is a lawful value that can be written above the floor.
-use mathlib.Core.Bool.{Bool, true, false, _&&_}
+use mathlib.Core.Bool.{true, _&&_}
 use mathlib.Core.List.{List, [], _∷_, _++_, map}
 use mathlib.Core.Option.{Option, none, some, Option·some-injective as some-injective}
-use mathlib.Core.Path.{_≡_, refl, sym, ap, subst, _∙_}
-use Prim.Native.Nat.{ℕ, zero, suc, _+_, _-_, _*_, _%_, _≤_, _<_}
+use mathlib.Core.Path.{_≡_, refl, sym, _∙_}
+use Prim.Native.Nat.{ℕ, suc, _+_, _-_, _*_, _%_, _≤_, _<_}
 use native.Mathlib.Omega.{arith}
 use borrow.Author.Tests.{eqb-true, ltb-true}
 use lib.Dec.{ltb}
-use lib.ListN.{length, getD, drop, length-drop}
+use lib.ListN.{length, length-drop}
 use Rattle.containers.proofs.ChildLaws.{extent-fits, children-below}
 use Rattle.containers.proofs.WalkLaws.{below-more}
 use Rattle.marking.proofs.UsedIdLaws.{ids-below}
@@ -17,20 +17,18 @@ use Rattle.containers.specs.Children.{onceIn}
 use Rattle.containers.specs.Layouts.{Container}
 use Rattle.forms.proofs.LieLaws.{bytes-drop, child-bytes}
 use Rattle.marking.specs.Ids.{idsOfAll, idsInside, idsBy, idsIn}
-use Rattle.noting.specs.Notes.{Note, leftNotes}
+use Rattle.noting.specs.Notes.{leftNotes}
 use Rattle.numbers.specs.Little.{numberAt}
 use Rattle.clashes.proofs.LeftKindLaws.{left-kind}
 use Rattle.paper.specs.Rules.{isObject}
 use Rattle.paper.proofs.WordLaws.{never, given-some, then-some, and-both, some-there, there-some}
-use Rattle.paper.specs.Bounds.{mostWalked}
 use Rattle.paper.specs.FirstBytes.{readingOf}
 use Rattle.paper.specs.Limits.{mostLeftover}
-use Rattle.paper.specs.Meaning.{Doc, object}
+use Rattle.paper.specs.Meaning.{object}
 use Rattle.paper.specs.Metadata.{Dictionary, rising}
 use Rattle.paper.specs.Values.{Child, headSize, childExtent, childrenAt, childBytes, areaOf, startsOf, idsOf, namesAt, meaningBy, meaningOf, whole}
 use Rattle.paper.specs.Words.{at, isThere, allBelow}
 use Rattle.paper.specs.declared.Reading.the-variants.{ObjectHead}
-use Rattle.paper.specs.declared.Reading.{Reading}
 use Rattle.rebuilt.proofs.LeftLaws.{ObjectRead, object-read}
 use Rattle.rebuilt.proofs.NumberedLaws.{numbered-front, numbered-behind}
 use Rattle.rebuilt.specs.Members.{Member, membersWith, leftMembersBy, leftMembers}

@@ -1,11 +1,10 @@
 -- A list's places written, last to first: those from one on stand up to the end.
-use mathlib.Core.Bool.{true}
 use mathlib.Core.List.{List, [], _∷_, map}
-use mathlib.Core.Option.{some, Option·some-injective as some-injective}
+use mathlib.Core.Option.{Option·some-injective as some-injective}
 use mathlib.Core.Path.{_≡_, refl, sym, ap, subst, _∙_}
 use Prim.Native.Nat.{ℕ, zero, suc, _+_, _-_, _*_, _^_, _≤_, _<_}
 use native.Mathlib.Omega.{arith}
-use lib.ListN.{length, getD, take, drop, length-map, length-take, length-drop}
+use lib.ListN.{length, getD, take, drop, length-map}
 use lib.Seq.{getD-take}
 use borrow.Rule.Slice.PartMut.{putMid, same-len-mid, take-put}
 use Rattle.forms.proofs.ContainerLaws.{array-fit}
@@ -18,13 +17,12 @@ use Rattle.noting.specs.Notes.{piecePlaces, Spotted}
 use Rattle.paper.specs.Bounds.{mostWalked}
 use Rattle.paper.specs.Framing.{Piece}
 use Rattle.paper.specs.Limits.{mostRow}
-use Rattle.paper.specs.Metadata.{Dictionary}
 use Rattle.paper.specs.Normal.{arrayBytes}
 use Rattle.paper.specs.Schemas.{Schema}
 use Rattle.paper.specs.Words.{part, joined}
 use Rattle.places.proofs.StepLaws.{place-cut, place-ends, place-fits}
-use Rattle.places.specs.Frames.{placeEnd, placeFrame}
-use Rattle.putting.proofs.PutLaws.{told-here, told-full, told-length, told-room, ends-lie, put-array}
+use Rattle.places.specs.Frames.{placeFrame}
+use Rattle.putting.proofs.PutLaws.{told-length, told-room, ends-lie, put-array}
 use Rattle.putting.specs.Put.{Room, PutAs, full}
 use Rattle.putting.specs.declared.Put.the-variants.{At, Full}
 use Rattle.putting.specs.declared.Put.{Put}
@@ -37,7 +35,7 @@ use Rattle.building.proofs.ElementLaws.{PlaceAt, pieces-long, element-a
 use Rattle.building.proofs.FilledLaws.{place-filled}
 use Rattle.building.proofs.LoopLaws.{PartsSeen, parts-start, parts-next, parts-full, parts-done}
 use Rattle.building.proofs.MemberLaws.{part-bytes}
-use Rattle.building.specs.Building.{Enough, PlaceReady, ElementsReady, elementsRebuilt}
+use Rattle.building.specs.Building.{PlaceReady, ElementsReady, elementsRebuilt}
 
 pub record ListSeen (levels : ℕ) (ranks schema table : List ℕ) (node : ℕ) (body places₀ ids₀ out₀ : List ℕ) (floor end count : ℕ) (places ids out : List ℕ) (start i : ℕ) : Type 0 where
   pub room : Room out floor start

@@ -1,14 +1,14 @@
 -- The loops over parts that are written last to first: those from one on stand up to the end, each one value.
-use mathlib.Core.List.{List, [], _∷_, _++_, append-nil}
-use mathlib.Core.Path.{_≡_, refl, sym, ap, subst, _∙_}
-use Prim.Native.Nat.{ℕ, zero, suc, _+_, _-_, _*_, _^_, _≤_, _<_}
+use mathlib.Core.List.{List, [], _∷_, _++_}
+use mathlib.Core.Path.{_≡_, sym, ap, _∙_}
+use Prim.Native.Nat.{ℕ, suc, _+_, _-_, _^_, _≤_, _<_}
 use native.Mathlib.Omega.{arith}
-use lib.ListN.{length, getD, take, drop, drop-of-length-le, length-append, length-drop, take-append-drop}
+use lib.ListN.{length, getD, take, drop, drop-of-length-le, length-append, take-append-drop}
 use lib.Seq.{drop-cons}
 use Rattle.forms.proofs.PartLaws.{AllFilled}
 use Rattle.forms.proofs.ScalarLaws.{Filled}
 use Rattle.paper.specs.Words.{joined}
-use Rattle.putting.proofs.PutLaws.{told-here, told-full, told-length, told-room}
+use Rattle.putting.proofs.PutLaws.{told-here, told-full}
 use Rattle.putting.specs.Put.{Room, PutAs}
 use Rattle.putting.specs.declared.Put.the-variants.{At, Full}
 use Rattle.putting.specs.declared.Put.{Put}

@@ -1,14 +1,13 @@
 -- An object's places and the notes of them, in step: each that is present is ready to be written with what the tables have left.
 use mathlib.Core.Bool.{Bool, true, false}
-use mathlib.Core.List.{List, [], _∷_, _++_, map}
+use mathlib.Core.List.{List, [], _∷_, _++_}
 use mathlib.Core.Option.{some}
 use mathlib.Core.Path.{_≡_, refl, sym, ap, subst, _∙_}
-use Prim.Native.Nat.{ℕ, zero, suc, _+_, _-_, _*_, _≤_, _<_}
+use Prim.Native.Nat.{ℕ, suc, _+_, _-_, _*_, _≤_, _<_}
 use native.Mathlib.Omega.{arith}
 use borrow.Author.Tests.{leb-true, leb-false}
 use lib.Dec.{leb}
-use lib.ListN.{length, getD, take, drop, length-take, length-drop}
-use Rattle.dictionary.specs.declared.ids.InputId.{InputId}
+use lib.ListN.{length, drop, length-take, length-drop}
 use Rattle.fields.specs.Telling.{lookedAt}
 use Rattle.forms.proofs.LieLaws.{bytes-take, bytes-drop}
 use Rattle.frames.specs.Frames.{pieceIn}
@@ -24,7 +23,7 @@ use Rattle.paper.specs.Words.{part}
 use Rattle.places.proofs.StepLaws.{place-ends}
 use Rattle.places.specs.Frames.{placeEnd, placeFrame}
 use Rattle.ranking.proofs.HeldLaws.{held-first, below-held}
-use Rattle.rebuilt.proofs.InnerLaws.{NamedBy, pieces-none, members-none, members-over, member-first, member-has, member-rises, member-whole, member-fits, member-place, members-behind, member-pieces, member-named}
+use Rattle.rebuilt.proofs.InnerLaws.{NamedBy, pieces-none, members-over, member-first, member-whole, member-fits, member-place, members-behind, member-pieces, member-named}
 use Rattle.rebuilt.proofs.NumberedLaws.{numbered-front, numbered-behind, numbered-more}
 use Rattle.rebuilt.specs.Members.{Member}
 use Rattle.rebuilt.specs.Rebuilt.{piecesIn, placeRebuilt, addMember, memberPlaces}

@@ -1,23 +1,21 @@
 -- An object's members written, last to first: those from one on stand up to the end.
 use mathlib.Core.Bool.{true}
-use mathlib.Core.List.{List, [], _∷_, map}
+use mathlib.Core.List.{List, [], map}
 use mathlib.Core.Path.{_≡_, refl, sym, ap, subst, _∙_}
-use Prim.Native.Nat.{ℕ, zero, suc, _+_, _-_, _*_, _^_, _≤_, _<_}
+use Prim.Native.Nat.{ℕ, _+_, _-_, _*_, _^_, _≤_, _<_}
 use native.Mathlib.Omega.{arith}
 use borrow.Rule.Slice.PartMut.{putMid, same-len-mid, take-put}
-use lib.ListN.{length, getD, take, drop, length-map, length-take, length-drop, take-append-drop}
+use lib.ListN.{length, getD, take, drop, length-map, length-take, take-append-drop}
 use lib.Seq.{getD-take}
 use Rattle.forms.proofs.PartLaws.{AllFilled}
 use Rattle.forms.proofs.ScalarLaws.{Filled}
 use Rattle.forms.proofs.LieLaws.{child-length}
 use Rattle.noting.proofs.FrontLaws.{front-same}
-use Rattle.noting.specs.Notes.{Note, Noted}
 use Rattle.paper.proofs.WordLaws.{some-there}
 use Rattle.paper.specs.Bounds.{mostWalked}
-use Rattle.paper.specs.Normal.{objectBytes}
 use Rattle.paper.specs.Values.{childBytes, meaningOf}
 use Rattle.paper.specs.Words.{numbers, allBelow, joined}
-use Rattle.putting.proofs.PutLaws.{told-here, told-full, told-length, told-room, ends-lie, put-object, object-holds}
+use Rattle.putting.proofs.PutLaws.{told-length, told-room, ends-lie, put-object, object-holds}
 use Rattle.putting.specs.Put.{Room, PutAs, full}
 use Rattle.putting.specs.declared.Put.the-variants.{At, Full}
 use Rattle.putting.specs.declared.Put.{Put}

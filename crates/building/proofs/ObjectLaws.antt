@@ -1,41 +1,32 @@
 -- An object's places beside its leftover: what the noting of them asks, and the notes as those of members that can be written.
-use mathlib.Core.Bool.{Bool, true, false}
-use mathlib.Core.List.{List, [], _∷_, _++_, map}
+use mathlib.Core.List.{List, [], _∷_}
 use mathlib.Core.Logic.{_⊎_, inl, inr}
-use mathlib.Core.Option.{some}
-use mathlib.Core.Path.{_≡_, refl, sym, ap, subst, _∙_}
-use Prim.Native.Nat.{ℕ, zero, suc, _+_, _-_, _*_, _≤_, _<_}
+use mathlib.Core.Path.{_≡_, refl, sym, ap, _∙_}
+use Prim.Native.Nat.{ℕ, suc, _+_, _-_, _*_, _≤_, _<_}
 use native.Mathlib.Nat.{mul-le-mul, le-refl}
 use native.Mathlib.Omega.{arith}
-use lib.ListN.{length, getD, drop, length-drop, length-map}
-use Rattle.containers.proofs.ChildLaws.{children-below}
-use Rattle.containers.proofs.LayoutLaws.{ids-in, starts-in, starts-there, ids-there, area-same, starts-same, ids-same, ids-starts-length}
+use lib.ListN.{length}
+use Rattle.containers.proofs.LayoutLaws.{ids-in, starts-in, starts-there, ids-there, starts-same, ids-same}
 use Rattle.dictionary.proofs.NumbersRunLaws.{rest, run-length}
 use Rattle.containers.proofs.WalkLaws.{below-more}
 use Rattle.containers.specs.Layouts.{Container, LaidOut}
 use Rattle.containers.specs.declared.shape.Layout.{Layout}
-use Rattle.marking.proofs.UsedIdLaws.{ids-below}
 use Rattle.marking.proofs.ValueLaws.{value-begins}
 use Rattle.paper.proofs.WordLaws.{some-there}
-use Rattle.marking.specs.Ids.{idsIn, idsInside}
 use Rattle.noting.specs.Adding.{SomeMembers, LeftRun}
 use Rattle.noting.specs.Notes.{Note, addNote, leftNotes, fieldNotes, Noted, memberNotes, noteRank}
-use Rattle.paper.specs.Bounds.{mostWalked}
 use Rattle.paper.specs.FirstBytes.{readingOf}
 use Rattle.paper.specs.Framing.{Piece}
-use Rattle.paper.specs.Limits.{mostLeftover, mostRow, mostSchema}
-use Rattle.paper.specs.Meaning.{object}
-use Rattle.paper.specs.Metadata.{Dictionary}
+use Rattle.paper.specs.Limits.{mostRow, mostSchema}
 use Rattle.paper.specs.Schemas.{SchemaFields, noColumns, named}
-use Rattle.paper.specs.Values.{headSize, areaOf, startsOf, idsOf, childrenAt, meaningOf}
-use Rattle.paper.specs.Words.{at, numbers, allBelow, isThere}
+use Rattle.paper.specs.Values.{headSize, areaOf, startsOf, idsOf, meaningOf}
+use Rattle.paper.specs.Words.{at, numbers}
 use Rattle.paper.specs.declared.Reading.the-variants.{ObjectHead}
-use Rattle.paper.specs.declared.Reading.{Reading}
 use Rattle.lookup.specs.declared.Looked.the-variants.{At, Nowhere}
 use Rattle.lookup.specs.declared.Looked.{Looked}
 use Rattle.putting.specs.Put.{PutAs}
 use Rattle.putting.specs.declared.Put.{Put}
-use Rattle.rebuilt.specs.Members.{Member, normalIdOf, objectOf}
+use Rattle.rebuilt.specs.Members.{Member, objectOf}
 use Rattle.rebuilt.specs.Rebuilt.{piecesIn}
 use Rattle.schemas.proofs.FieldsStandLaws.{one-list}
 use Rattle.schemas.specs.Frames.{frameEnd}
@@ -43,7 +34,7 @@ use Rattle.schemas.specs.Positions.{FieldsStand}
 use Rattle.building.proofs.LeftLaws.{left-container, left-least, left-low, left-known, left-ready}
 use Rattle.building.proofs.MemberLaws.{members-long, places-ready}
 use Rattle.building.proofs.NotesLaws.{InStep, merged-ready, merged-length, ready-at, ready-size, ready-ids, ready-below}
-use Rattle.building.specs.Building.{Enough, LeftObject, MembersReady, MemberReady, NotesReady, membersRebuilt, memberIn}
+use Rattle.building.specs.Building.{Enough, MembersReady, MemberReady, NotesReady, membersRebuilt}
 
 -- Not more fields are noted than there are pieces.
 add-few : (b : List ℕ) (looked : Looked) (place field : ℕ) (notes : List Note) (n : ℕ) → length notes ≤ n → length (addNote b looked place field notes) ≤ suc n

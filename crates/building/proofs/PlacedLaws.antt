@@ -1,13 +1,13 @@
 -- What was put for the parts of a place, or for what is typed by the kind of its node, was put for the whole.
-use mathlib.Core.List.{List, [], _∷_, map}
-use mathlib.Core.Path.{_≡_, refl, sym, ap, subst, _∙_}
+use mathlib.Core.List.{List, [], _∷_}
+use mathlib.Core.Path.{_≡_, _∙_}
 use Prim.Native.Nat.{ℕ, _+_, _-_}
 use lib.ListN.{length}
 use Rattle.paper.specs.Normal.{arrayBytes}
-use Rattle.paper.specs.Schemas.{Column, Schema, SchemaFields, leftoverOnly, column, list, fields}
+use Rattle.paper.specs.Schemas.{Schema, SchemaFields}
 use Rattle.paper.specs.Words.{part}
 use Rattle.places.specs.Parts.{partsOf}
-use Rattle.places.specs.declared.parts.Parts.the-variants.{Empty, Leftover, Typed, Both, Unframed}
+use Rattle.places.specs.declared.parts.Parts.the-variants.{Empty, Leftover, Typed, Both}
 use Rattle.places.specs.declared.parts.Parts.{Parts}
 use Rattle.putting.specs.Put.{PutAs}
 use Rattle.putting.specs.declared.Put.{Put}
@@ -18,7 +18,7 @@ use Rattle.schemas.proofs.KindLaws.{column-here, list-here, object-here}
 use Rattle.schemas.specs.Frames.{frameEnd}
 use Rattle.schemas.specs.Kinds.{kindAt}
 use Rattle.schemas.specs.Positions.{Stands, FieldsStand}
-use Rattle.schemas.specs.declared.readers.Kind.the-variants.{Leftover as LeftoverKind, Column as ColumnKind, List as ListKind, Fields as FieldsKind}
+use Rattle.schemas.specs.declared.readers.Kind.the-variants.{Column as ColumnKind, List as ListKind, Fields as FieldsKind}
 use Rattle.schemas.specs.declared.readers.Kind.{Kind}
 use Rattle.writing.specs.Rewritten.{rewritten}
 use Rattle.building.specs.Building.{elementsRebuilt, membersRebuilt}

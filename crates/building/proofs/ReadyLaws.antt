@@ -1,16 +1,14 @@
 -- What a writer stands on gives what each call inside it asks: a place by its parts, and what is typed by the kind of its node.
-use mathlib.Core.List.{List, [], _∷_, _++_}
+use mathlib.Core.List.{List, [], _++_}
 use mathlib.Core.Option.{some}
-use mathlib.Core.Path.{_≡_, refl, sym, ap, subst, _∙_}
-use Prim.Native.Nat.{ℕ, zero, suc, _+_, _-_, _*_, _≤_, _<_}
+use mathlib.Core.Path.{_≡_, refl}
+use Prim.Native.Nat.{ℕ, zero, suc, _+_, _-_, _≤_}
 use native.Mathlib.Omega.{arith}
 use lib.ListN.{length, length-take, length-drop}
 use Rattle.marking.specs.Ids.{idsIn}
-use Rattle.paper.specs.Limits.{mostLeftover}
 use Rattle.paper.specs.Meaning.{object, noFields}
 use Rattle.paper.specs.Metadata.{Dictionary}
 use Rattle.paper.specs.Running.{running}
-use Rattle.paper.specs.Schemas.{Schema, SchemaFields, list, fields}
 use Rattle.paper.specs.Values.{meaningOf}
 use Rattle.paper.specs.Words.{part}
 use Rattle.places.proofs.PlaceLaws.{one-long, typed-long, both-long}
@@ -19,12 +17,12 @@ use Rattle.places.specs.declared.parts.Parts.the-variants.{Leftover as Leftover
 use Rattle.places.specs.declared.parts.Parts.{Parts}
 use Rattle.putting.specs.Put.{Leftover}
 use Rattle.rebuilt.proofs.NumberedLaws.{numbered-front, numbered-behind}
-use Rattle.rebuilt.proofs.PartwiseLaws.{ids-are-typed, no-left-ids}
+use Rattle.rebuilt.proofs.PartwiseLaws.{ids-are-typed}
 use Rattle.rebuilt.proofs.ThereLaws.{place-leftover, place-only, place-beside, place-behind, typed-level, typed-elements, typed-members}
 use Rattle.rebuilt.specs.Members.{noLeft}
-use Rattle.rebuilt.specs.Rebuilt.{rebuiltBy, piecesIn}
-use Rattle.rebuilt.specs.There.{PlaceThere, TypedThere, ElementsThere, MembersThere, Numbered}
-use Rattle.rebuilt.specs.Using.{placeIds, typedIds, elementIds, memberIds}
+use Rattle.rebuilt.specs.Rebuilt.{rebuiltBy}
+use Rattle.rebuilt.specs.There.{TypedThere, Numbered}
+use Rattle.rebuilt.specs.Using.{typedIds}
 use Rattle.schemas.proofs.KindLaws.{list-here, object-here}
 use Rattle.schemas.proofs.FieldsStandLaws.{one-list}
 use Rattle.schemas.proofs.StandingLaws.{one-stands}
@@ -35,7 +33,7 @@ use Rattle.schemas.specs.declared.readers.Kind.the-variants.{List as ListKind, 
 use Rattle.schemas.specs.declared.readers.Kind.{Kind}
 use Rattle.building.proofs.GrowthLaws.{leftover-ready}
 use Rattle.building.proofs.MemberLaws.{part-bytes}
-use Rattle.building.specs.Building.{Ground, Bytes, Enough, PlaceReady, LeftObject, TypedReady, ElementsReady, MembersReady}
+use Rattle.building.specs.Building.{Bytes, Enough, PlaceReady, LeftObject, TypedReady, ElementsReady, MembersReady}
 
 -- Tables and a floor that suffice for so many bytes suffice for fewer.
 pub fewer : {size less places ids floor : ℕ} → Enough size places ids floor → less ≤ size → Enough less places ids floor

@@ -1,6 +1,6 @@
 -- What the writers of a lawful row stand on: bytes that are lawful under a node, ids that are numbered, tables with room for all
 -- that is to be noted, and a floor so high that every leftover can be written before its length is known.
-use mathlib.Core.List.{List, [], _∷_, map}
+use mathlib.Core.List.{List, [], map}
 use mathlib.Core.Option.{some}
 use mathlib.Core.Path.{_≡_}
 use mathlib.Core.Bool.{true}

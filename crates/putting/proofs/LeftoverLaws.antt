@@ -1,11 +1,9 @@
 -- A leftover: it can be written since the floor is high enough, and where it starts says whether there was room.
 use mathlib.Core.List.{List}
-use mathlib.Core.Path.{_≡_}
-use Prim.Native.Nat.{ℕ, _+_, _≤_, _<_}
+use Prim.Native.Nat.{ℕ, _≤_, _<_}
 use native.Mathlib.Omega.{arith}
 use lib.ListN.{length}
 use Rattle.writing.specs.Ends.{EndsAt}
-use Rattle.writing.specs.Rewritten.{rewritten}
 use Rattle.writing.specs.Written.{Writable}
 use Rattle.putting.specs.Put.{Room, Leftover, PutAs, put, full}
 use Rattle.putting.specs.declared.Put.the-variants.{At, Full}

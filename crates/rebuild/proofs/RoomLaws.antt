@@ -1,6 +1,6 @@
 -- The room for a document: which tables and floor suffice for a row, and what is answered of what was put there.
 use mathlib.Core.List.{List}
-use mathlib.Core.Path.{_≡_, refl, subst}
+use mathlib.Core.Path.{_≡_, refl}
 use Prim.Native.Nat.{ℕ, _+_, _-_, _*_, _≤_, _<_}
 use native.Mathlib.Omega.{arith}
 use lib.ListN.{length, take, drop}
@@ -22,7 +22,6 @@ use Rattle.putting.specs.declared.Put.the-variants.{At, Full}
 use Rattle.putting.specs.declared.Put.{Put}
 use Rattle.rows.specs.Judging.{outermostOf}
 use Rattle.rows.specs.declared.judging.RowParts.{RowParts}
-use Rattle.writing.specs.Ends.{EndsAt}
 use Rattle.rebuild.proofs.NumberedLaws.{outermost-short}
 use Rattle.rebuild.specs.Rebuilding.{Numbered, TriedAs, told, noRoom}
 use Rattle.rebuild.specs.declared.rooms.Tried.the-variants.{Told, NoRoom}

@@ -1,102 +1,50 @@
 -- A place uses what its leftover uses and what is typed in it uses: its ids by its parts, and what it means by them.
 use mathlib.Core.Bool.{Bool, true, false, not, _&&_, _||_}
-use mathlib.Core.List.{List, [], _∷_, _++_, append-nil}
-use mathlib.Core.Option.{Option, none, some, Option·some-injective as some-injective}
+use mathlib.Core.List.{List, [], _++_}
+use mathlib.Core.Option.{none, some, Option·some-injective as some-injective}
 use mathlib.Core.Path.{_≡_, refl, sym, ap, _∙_}
-use Prim.Native.Nat.{ℕ, zero, suc, _+_, _-_}
+use Prim.Native.Nat.{ℕ, _+_, _-_}
 use native.Mathlib.Omega.{arith}
 use lib.Dec.{leb, eqb}
 use lib.ListN.{length}
-use Rattle.forms.specs.WellFormed.{allMembers, wellFormedBy, wellFormed}
 use Rattle.frames.proofs.FrameLaws.{pieces-ended}
 use Rattle.marking.specs.Ids.{idsIn}
 use Rattle.names.specs.Used.{usedIn}
 use Rattle.paper.specs.Framing.{Piece, piecesOf}
 use Rattle.paper.specs.Limits.{mostLeftover}
-use Rattle.paper.specs.Meaning.{Doc, null, scalar, array, object, Fields, noFields}
-use Rattle.paper.specs.Metadata.{Dictionary, rising}
+use Rattle.paper.specs.Meaning.{Doc, null, scalar, array, object, noFields}
+use Rattle.paper.specs.Metadata.{Dictionary}
 use Rattle.paper.specs.Normal.{fieldNames}
-use Rattle.paper.specs.Rebuilding.{merge, fieldsIn, orNull, placeMeaningBy, cellDoc, innerDoc, listMeaning, addField, placeMeaning, fieldsMeaning}
-use Rattle.paper.specs.Rows.{Place, empty, leftover, typed, both, Typed, cell, inner, Places, noPlaces, place, leftoverMeaning, placeParts, placeBy, placeWithin, placeUnder}
+use Rattle.paper.specs.Rebuilding.{merge, fieldsIn, orNull, placeMeaningBy, innerDoc, placeMeaning, fieldsMeaning}
+use Rattle.paper.specs.Rows.{Place, empty, leftover, typed, both, Typed, cell, inner, leftoverMeaning, placeParts, placeBy, placeWithin, placeUnder}
 use Rattle.paper.specs.Rules.{hasLeftover, hasTyped, leftoverOf, isObject, isFieldsNode, namedBy, hasAny, breaksA, breaksB, breaksC, breaksD, insideLawful, placeLawfulBy, placeLawful}
-use Rattle.paper.specs.Schemas.{Schema, leftoverOnly, column, list, fields, SchemaFields, noColumns, named, columnNames}
+use Rattle.paper.specs.Schemas.{Schema, leftoverOnly, column, list, fields, columnNames}
 use Rattle.paper.specs.Values.{meaningOf}
-use Rattle.paper.specs.Words.{part, given, andThen, same, among, isThere}
+use Rattle.paper.specs.Words.{part, given, andThen, among, isThere}
 use Rattle.places.specs.Leftovers.{besideBroken}
 use Rattle.places.specs.Parts.{partsOf}
 use Rattle.places.specs.Verdicts.{typedUnder, typedLawful}
 use Rattle.places.specs.declared.parts.Parts.the-variants.{Empty, Leftover, Typed as TypedPart, Both, Unframed}
 use Rattle.places.specs.declared.parts.Parts.{Parts}
-use Rattle.forms.proofs.WellFormedLaws.{decoded-well-formed}
-use Rattle.names.proofs.SameLaws.{among-more}
-use Rattle.paper.proofs.WordLaws.{never, and-both, given-some, then-some, some-there}
+use Rattle.paper.proofs.WordLaws.{never, given-some, then-some, some-there}
 use Rattle.places.proofs.PlaceLaws.{Told, told}
 use Rattle.places.proofs.VerdictLaws.{place-under, place-lawful}
-use Rattle.rebuilt.specs.Rebuilt.{rebuiltBy, piecesIn}
-use Rattle.rebuilt.specs.Using.{placeIds, memberIds, elementIds}
+use Rattle.rebuilt.specs.Rebuilt.{rebuiltBy}
+use Rattle.rebuilt.specs.Using.{placeIds, typedIds}
+use Rattle.rebuilt.proofs.LeftLaws.{left-rises}
 use Rattle.rebuilt.proofs.MergeNamesLaws.{merge-used}
-use Rattle.rebuilt.proofs.UsesLaws.{Uses, uses-none, uses-as, uses-both, uses-left, no-left}
-
--- ---- what is typed under a node: its ids, and what it means
-
-unfoldable pub typedIds : Schema → (levels : ℕ) → (schema table : List ℕ) → (node : ℕ) → List ℕ → List ℕ
-typedIds leftoverOnly levels schema table node s = []
-typedIds (column said) levels schema table node s = []
-typedIds (list element) levels schema table node s = elementIds element (levels - 1) schema table (node + 3) (piecesIn s)
-typedIds (fields columns) levels schema table node s = memberIds columns (levels - 1) schema table (node + 3) (piecesIn s)
-
-unfoldable pub typedMeans : Schema → Typed → Doc
-typedMeans leftoverOnly = cellDoc
-typedMeans (column said) = cellDoc
-typedMeans (list element) = innerDoc λ ps. array (listMeaning (placeMeaning element) ps)
-typedMeans (fields columns) = innerDoc λ ps. object (fieldsMeaning columns ps)
-
-ids-by : (under : Schema) (levels : ℕ) (schema table : List ℕ) (node : ℕ) (body : List ℕ)
-    → placeIds under levels schema table node body
-    ≡ rebuiltBy [] [] (idsIn levels) (λ left s. idsIn levels left ++ typedIds under levels schema table node s) (partsOf body) body
-unfolding placeIds typedIds elementIds
-ids-by leftoverOnly levels schema table node body = simp append-nil
-ids-by (column said) levels schema table node body = simp append-nil
-ids-by (list element) levels schema table node body = refl
-ids-by (fields columns) levels schema table node body = refl
-
-pub meaning-by : (under : Schema) → placeMeaning under ≡ placeMeaningBy (typedMeans under)
-unfolding placeMeaning typedMeans
-meaning-by leftoverOnly = refl
-meaning-by (column said) = refl
-meaning-by (list element) = refl
-meaning-by (fields columns) = refl
+use Rattle.rebuilt.proofs.NamedLaws.{meant-named}
+use Rattle.rebuilt.proofs.PartsLaws.{typedMeaning, meaning-parts}
+use Rattle.rebuilt.proofs.PartwiseLaws.{ids-are-typed, no-left-ids}
+use Rattle.rebuilt.proofs.UsesLaws.{Uses, uses-none, uses-as, uses-both, uses-left}
 
 -- ---- a leftover beside something typed
-
--- An object's typed fields have names of its node.
-named-by-node : (columns : SchemaFields) (ps : Places) (name : List ℕ) → among name (fieldNames (fieldsMeaning columns ps)) ≡ true
-    → among name (columnNames columns) ≡ true
-unfolding fieldsMeaning fieldNames columnNames addField among
-named-by-node noColumns ps name e = e
-named-by-node (named first node columns) noPlaces name e = never (sym e)
-named-by-node (named first node columns) (place p ps) name e = go (placeMeaning node p) (named-by-node columns ps name) e
-  where
-    further : (b : Bool) {c d : Bool} → (c ≡ true → d ≡ true) → b || c ≡ true → b || d ≡ true
-    further true then f = refl
-    further false then f = then f
-
-    go : (x : Option Doc) → (among name (fieldNames (fieldsMeaning columns ps)) ≡ true → among name (columnNames columns) ≡ true)
-        → among name (fieldNames (addField first x (fieldsMeaning columns ps))) ≡ true → among name (first ∷ columnNames columns) ≡ true
-    go none rest f = among-more name first (columnNames columns) (rest f)
-    go (some d) rest f = further (same first name) rest f
-
-left-rises : (levels : ℕ) (names : Dictionary) (left : List ℕ) (fs : Fields) → meaningOf levels names left ≡ some (object fs) → rising (fieldNames fs) ≡ true
-unfolding wellFormed wellFormedBy
-left-rises zero names left fs means = never (sym (decoded-well-formed zero names left (object fs) means))
-left-rises (suc levels) names left fs means =
-    and-both (rising (fieldNames fs)) (allMembers (wellFormed levels) fs) (decoded-well-formed (suc levels) names left (object fs) means) .0
 
 -- Rules a, b and c: it is an object beside an object, and they share no name.
 beside-used : (under : Schema) (levels : ℕ) (names : Dictionary) (left : List ℕ) (d : Doc) (t : Typed) → meaningOf levels names left ≡ some d
     → besideBroken under d ≡ false → (name : List ℕ)
-    → usedIn name d || usedIn name (typedMeans under t) ≡ usedIn name (object (merge (fieldsIn d) (fieldsIn (typedMeans under t))))
-unfolding besideBroken isFieldsNode isObject hasAny namedBy typedMeans innerDoc fieldsIn usedIn fieldNames among
+    → usedIn name d || usedIn name (typedMeaning under t) ≡ usedIn name (object (merge (fieldsIn d) (fieldsIn (typedMeaning under t))))
+unfolding besideBroken isFieldsNode isObject hasAny namedBy typedMeaning innerDoc fieldsIn usedIn fieldNames among
 beside-used leftoverOnly levels names left d t means kept name = never kept
 beside-used (column said) levels names left d t means kept name = never kept
 beside-used (list element) levels names left d t means kept name = never kept
@@ -104,7 +52,7 @@ beside-used (fields columns) levels names left null t means kept name = never ke
 beside-used (fields columns) levels names left (scalar v) t means kept name = never kept
 beside-used (fields columns) levels names left (array ds) t means kept name = never kept
 beside-used (fields columns) levels names left (object fs) (inner ps) means kept name =
-    sym (merge-used (columnNames columns) fs (fieldsMeaning columns ps) (left-rises levels names left fs means) kept (named-by-node columns ps) name)
+    sym (merge-used (columnNames columns) fs (fieldsMeaning columns ps) (left-rises levels names left fs means) kept (meant-named columns ps) name)
 beside-used (fields columns) levels names left (object fs) (cell said value) means kept name =
     sym (merge-used (columnNames columns) fs noFields (left-rises levels names left fs means) kept (λ n e. never (sym e)) name)
 
@@ -129,7 +77,7 @@ both-kept under keeps d t = go (isFieldsNode under) (isObject d) (hasAny (namedB
 abbrev pub TypedUses : Schema → (levels : ℕ) → Dictionary → (schema table : List ℕ) → (node : ℕ) → Type 0
 TypedUses under levels names schema table node =
     (s : List ℕ) (t : Typed) → typedUnder under levels names s ≡ some t → typedLawful under names t ≡ true
-    → Uses names (typedIds under levels schema table node s) (λ name. usedIn name (typedMeans under t))
+    → Uses names (typedIds under levels schema table node s) (λ name. usedIn name (typedMeaning under t))
 
 abbrev pub PlaceUses : Schema → (levels : ℕ) → Dictionary → (schema table : List ℕ) → (node : ℕ) → Type 0
 PlaceUses under levels names schema table node =
@@ -146,7 +94,7 @@ module _ (under : Schema) (levels : ℕ) (names : Dictionary) (schema table : Li
 
   both-use : (left s : List ℕ) (d : Doc) (t : Typed) (p : Place) → leftoverMeaning levels names left ≡ some d → typedUnder under levels names s ≡ some t
       → both d t ≡ p → placeLawfulBy under (typedLawful under names) p ≡ true
-      → Uses names (Ids left s) (λ name. usedIn name (orNull (placeMeaningBy (typedMeans under) p)))
+      → Uses names (Ids left s) (λ name. usedIn name (orNull (placeMeaningBy (typedMeaning under) p)))
   unfolding placeMeaningBy orNull
   both-use left s d t p read typed-read is kept =
       let keeps = both-kept under (typedLawful under names) d t (rw (← is) at kept) in
@@ -157,7 +105,7 @@ module _ (under : Schema) (levels : ℕ) (names : Dictionary) (schema table : Li
   by-parts : (body : List ℕ) (p : Place) → andThen (piecesOf body) (placeParts (leftoverMeaning levels names) (typedUnder under levels names)) ≡ some p
       → placeLawfulBy under (typedLawful under names) p ≡ true
       → (parts : Parts) → Told body parts
-      → Uses names (rebuiltBy [] [] (idsIn levels) Ids parts body) (λ name. usedIn name (orNull (placeMeaningBy (typedMeans under) p)))
+      → Uses names (rebuiltBy [] [] (idsIn levels) Ids parts body) (λ name. usedIn name (orNull (placeMeaningBy (typedMeaning under) p)))
   unfolding andThen placeParts given placeMeaningBy rebuiltBy orNull usedIn isThere
   by-parts body p e kept Empty none-left =
       let is : empty ≡ p = some-injective empty p (sym (rw (pieces-ended body 0 (omega arith))) ∙ e) in rw (← is) uses-none
@@ -169,7 +117,7 @@ module _ (under : Schema) (levels : ℕ) (names : Dictionary) (schema table : Li
       let s : List ℕ = part body 3 (length body) in
       let got = then-some (typedUnder under levels names s) (λ u. some (typed u)) (rw (t .pieces, t .tagged) at e) in
       let is : typed (got .0) ≡ p = some-injective (typed (got .0)) p (got .2) in
-      rw (← is, no-left levels) (each s (got .0) (got .1) (typed-kept under (typedLawful under names) (got .0) (ap (placeLawfulBy under (typedLawful under names)) is ∙ kept)))
+      rw (← is, no-left-ids levels) (each s (got .0) (got .1) (typed-kept under (typedLawful under names) (got .0) (ap (placeLawfulBy under (typedLawful under names)) is ∙ kept)))
   by-parts body p e kept (Both middle) t =
       let left : List ℕ = part body 3 middle in
       let s : List ℕ = part body (middle + 3) (length body) in
@@ -182,5 +130,5 @@ module _ (under : Schema) (levels : ℕ) (names : Dictionary) (schema table : Li
   unfolding placeWithin placeBy
   uses-place piece p e lawful =
       let there = given-some (eqb (piece .tag) 0x50) _ (rw (place-under under levels names) at e) .1 in
-      rw (ids-by under levels schema table node (piece .body), meaning-by under)
+      rw (ids-are-typed under levels schema table node (piece .body), meaning-parts under)
       (by-parts (piece .body) p there (rw (place-lawful under names) at lawful) (partsOf (piece .body)) (told (piece .body)))

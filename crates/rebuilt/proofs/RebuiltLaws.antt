@@ -30,7 +30,8 @@ use Rattle.places.specs.declared.verdicts.Verdict.the-variants.{Lawful, Broken}
 use Rattle.rebuilt.proofs.HeldLaws.{Held, nothingHeld, leftHeld, typedHeld, bothHeld, under-held, typed-keeps, both-keep, Fits, part-fits}
 use Rattle.rebuilt.proofs.MemberLaws.{no-members, more-members}
 use Rattle.rebuilt.proofs.NumberedLaws.{numbered-front, numbered-behind}
-use Rattle.rebuilt.proofs.PartsLaws.{rebuilt-parts, insideIds, ids-parts, typedMeaning, meaning-parts}
+use Rattle.rebuilt.proofs.PartsLaws.{insideIds, ids-parts, typedMeaning, meaning-parts}
+use Rattle.rebuilt.proofs.PartwiseLaws.{place-is-typed}
 use Rattle.rebuilt.proofs.TypedLaws.{PlaceIs, MembersAre, TypedIs, leftover-typed, cell-typed, list-typed, object-typed}
 use Rattle.rebuilt.specs.Meant.{placeDoc}
 use Rattle.rebuilt.specs.Members.{noLeft}
@@ -90,7 +91,7 @@ module _ (names normal : Dictionary) (ranks schema table : List ℕ) where
 
     place-by-parts : PlaceIs names normal ranks schema table under levels node
     place-by-parts piece p here =
-        rw (rebuilt-parts under levels ranks schema table node (piece .body), meaning-parts under)
+        rw (place-is-typed under levels ranks schema table node (piece .body), meaning-parts under)
         (held-is (piece .body) (here .fits) (partsOf (piece .body)) p (under-held under levels names piece p (here .read)) (here .lawful)
         (rw (ids-parts under levels schema table node (piece .body)) at (here .numbered)))
 

@@ -3,29 +3,26 @@ use mathlib.Core.Bool.{Bool, true, false, not, _&&_, _||_}
 use mathlib.Core.List.{List, [], _∷_, _++_, map}
 use mathlib.Core.Option.{Option, none, some, Option·some-injective as some-injective}
 use mathlib.Core.Path.{_≡_, refl, sym, ap, _∙_}
-use Prim.Native.Nat.{ℕ, zero, suc, _<_}
+use Prim.Native.Nat.{ℕ, _<_}
 use native.Mathlib.Omega.{arith}
 use borrow.Author.Tests.{lt-ltb, ne-eqb}
 use lib.Dec.{eqb}
 use lib.ListN.{length, getD}
 use Rattle.lookup.specs.Looking.{Tells, found, missing}
 use Rattle.lookup.specs.declared.Looked.{Looked}
-use Rattle.marking.specs.Ids.{idsIn, idsBy, idsInside, idsOfAll}
+use Rattle.marking.specs.Ids.{idsIn}
 use Rattle.names.specs.Used.{usedIn, usedInAll, usedInFields}
-use Rattle.numbers.specs.Little.{number, numberAt}
-use Rattle.paper.specs.FirstBytes.{readingOf, kindReading, countSize}
 use Rattle.paper.specs.Framing.{Piece}
 use Rattle.paper.specs.Meaning.{Doc, Fields}
 use Rattle.paper.specs.Metadata.{Dictionary}
 use Rattle.paper.specs.Rebuilding.{orNull, addField, listMeaning}
 use Rattle.paper.specs.Rows.{Place, Places, noPlaces, place, listPlaces}
 use Rattle.paper.specs.Rules.{breaksE, elementsLawful}
-use Rattle.paper.specs.Values.{childrenAt, idsOf, startsOf, namesAt, meaningOf}
-use Rattle.paper.specs.Words.{numbers, same, among, allBelow, isThere, joined}
+use Rattle.paper.specs.Values.{namesAt, meaningOf}
+use Rattle.paper.specs.Words.{same, among, allBelow, isThere, joined}
 use Rattle.marking.proofs.UsedIdLaws.{ids-below, ids-used}
 use Rattle.paper.proofs.WordLaws.{never, and-both, then-some}
 use Rattle.ranking.proofs.HeldLaws.{or-more, below-join}
-use Rattle.rebuilt.specs.Members.{noLeft}
 use Rattle.rebuilt.specs.Using.{addId}
 
 pub record Uses (names : Dictionary) (ids : List ℕ) (used : List ℕ → Bool) : Type 0 where
@@ -100,9 +97,3 @@ module _ {names : Dictionary} (read : Piece → Option Place) (keeps : Place →
 pub uses-left : (levels : ℕ) (names : Dictionary) (left : List ℕ) (d : Doc) → meaningOf levels names left ≡ some d
     → Uses names (idsIn levels left) (λ name. usedIn name d)
 uses-left levels names left d means = record { below = ids-below levels names left d means; exact = ids-used levels names left d means }
-
--- Where there is none, an object without members stands for it.
-pub no-left : (levels : ℕ) → idsIn levels noLeft ≡ []
-unfolding idsIn idsBy idsInside idsOfAll readingOf kindReading countSize idsOf startsOf childrenAt numbers numberAt number
-no-left zero = refl
-no-left (suc levels) = refl

@@ -30,8 +30,9 @@ use Rattle.places.proofs.StepLaws.{present, place-present}
 use Rattle.places.proofs.VerdictLaws.{place-under}
 use Rattle.rebuilt.specs.Meant.{placeDoc}
 use Rattle.rebuilt.specs.Rebuilt.{listed, piecesIn}
-use Rattle.rebuilt.specs.Using.{placeIds, memberIds, elementIds}
-use Rattle.rebuilt.proofs.PlaceUsesLaws.{typedIds, typedMeans, meaning-by, TypedUses, PlaceUses, uses-place}
+use Rattle.rebuilt.specs.Using.{placeIds, memberIds, elementIds, typedIds}
+use Rattle.rebuilt.proofs.PartsLaws.{typedMeaning, meaning-parts}
+use Rattle.rebuilt.proofs.PlaceUsesLaws.{TypedUses, PlaceUses, uses-place}
 use Rattle.rebuilt.proofs.UsesLaws.{Uses, uses-none, uses-as, uses-both, uses-elements, uses-field}
 
 -- ---- a field's place
@@ -39,9 +40,9 @@ use Rattle.rebuilt.proofs.UsesLaws.{Uses, uses-none, uses-as, uses-both
 -- A place means something exactly where it is present.
 meant-present : (node : Schema) (p : Place) → isThere (placeMeaning node p) ≡ present p
 unfolding present placeMeaningBy hasLeftover hasTyped isThere
-meant-present node p = rw (meaning-by node) (go p)
+meant-present node p = rw (meaning-parts node) (go p)
   where
-    go : (p : Place) → isThere (placeMeaningBy (typedMeans node) p) ≡ hasLeftover p || hasTyped p
+    go : (p : Place) → isThere (placeMeaningBy (typedMeaning node) p) ≡ hasLeftover p || hasTyped p
     go empty = refl
     go (leftover d) = refl
     go (typed t) = refl
@@ -88,7 +89,7 @@ inner-read read s t e =
 
 list-uses : (element : Schema) (levels : ℕ) (names : Dictionary) (schema table : List ℕ) (node : ℕ)
     → PlaceUses element (levels - 1) names schema table (node + 3) → TypedUses (list element) levels names schema table node
-unfolding typedUnder typedLawful typedIds typedMeans elementIds innerLawful innerDoc usedIn
+unfolding typedUnder typedLawful typedIds typedMeaning elementIds innerLawful innerDoc usedIn
 list-uses element levels names schema table node each s t e lawful =
     let read = inner-read (listPlaces (placeUnder element (levels - 1) names)) s t e in
     rw (← read .2)
@@ -102,7 +103,7 @@ MembersUse columns levels names schema table field =
 
 object-uses : (columns : SchemaFields) (levels : ℕ) (names : Dictionary) (schema table : List ℕ) (node : ℕ)
     → MembersUse columns (levels - 1) names schema table (node + 3) → TypedUses (fields columns) levels names schema table node
-unfolding typedUnder typedLawful typedIds typedMeans innerLawful innerDoc usedIn
+unfolding typedUnder typedLawful typedIds typedMeaning innerLawful innerDoc usedIn
 object-uses columns levels names schema table node all s t e lawful =
     let read = inner-read (fieldPlaces columns (levels - 1) names) s t e in
     rw (← read .2) (all (piecesIn s) (read .0) (read .1) (rw (← read .2) at lawful))
@@ -135,7 +136,7 @@ cell-used (cell said value) name = refl
 cell-used (inner ps) name = refl
 
 mutual
-  unfolding typedIds typedMeans
+  unfolding typedIds typedMeaning
 
   typed-uses : (under : Schema) (levels : ℕ) (names : Dictionary) (schema table : List ℕ) (node : ℕ) → Told names schema table under node
       → TypedUses under levels names schema table node

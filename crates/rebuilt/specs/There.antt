@@ -3,7 +3,7 @@
 use mathlib.Core.Bool.{true}
 use mathlib.Core.List.{List, []}
 use mathlib.Core.Path.{_≡_}
-use Prim.Native.Nat.{ℕ, _/_, _≤_, _<_}
+use Prim.Native.Nat.{ℕ, _/_, _≤_}
 use lib.ListN.{length, getD}
 use Rattle.fields.specs.Telling.{Told, FieldsTold}
 use Rattle.marking.specs.Ids.{holds}
