@@ -129,7 +129,7 @@ pub part-bytes : (s : List ℕ) → Bytes s → (from to : ℕ) → Bytes (part 
 part-bytes s bytes from to = bytes-take (to - from) (drop from s) (bytes-drop from s bytes)
 
 module _ (levels : ℕ) (names normal : Dictionary) (ranks schema table area body : List ℕ) (to places ids floor total : ℕ)
-    (ground : Ground names normal ranks schema) (bytes : Bytes body) (enough : (n : ℕ) → 3 * total + n ≤ length body → Enough n places ids floor) where
+    (ground : Ground names ranks schema) (bytes : Bytes body) (enough : (n : ℕ) → 3 * total + n ≤ length body → Enough n places ids floor) where
   abbrev Is : ℕ → ℕ → Member → Type 0
   Is at field m = MemberReady levels ranks schema table area body places ids floor at field m × (m .id < length ranks)
 

@@ -36,7 +36,7 @@ membersRebuilt columns levels ranks schema table from left body =
 
 -- ---- what stays the same in a row
 
-pub record Ground (names normal : Dictionary) (ranks schema : List ℕ) : Type 0 where
+pub record Ground (names : Dictionary) (ranks schema : List ℕ) : Type 0 where
   pub few : length names ≤ mostNames
   pub ranked : length names ≤ length ranks
   pub schema-short : length schema ≤ mostSchema
@@ -57,7 +57,7 @@ pub record Enough (size places ids floor : ℕ) : Type 0 where
 pub record PlaceReady (levels : ℕ) (ranks schema table : List ℕ) (node : ℕ) (body : List ℕ) (places ids floor : ℕ) : Type 0 where
   pub names : Dictionary
   pub normal : Dictionary
-  pub ground : Ground names normal ranks schema
+  pub ground : Ground names ranks schema
   pub there : PlaceThere levels names schema table node body
   pub numbered : Numbered names normal ranks (placeIds (there .under) levels schema table node body)
   pub bytes : Bytes body
@@ -74,7 +74,7 @@ pub record LeftObject (levels : ℕ) (names normal : Dictionary) (ranks left : L
 pub record TypedReady (levels : ℕ) (ranks schema table : List ℕ) (node : ℕ) (left body : List ℕ) (places ids floor : ℕ) : Type 0 where
   pub names : Dictionary
   pub normal : Dictionary
-  pub ground : Ground names normal ranks schema
+  pub ground : Ground names ranks schema
   pub there : TypedThere levels names schema table node body
   pub numbered : Numbered names normal ranks (typedIds (there .under) levels schema table node body)
   pub beside : LeftObject levels names normal ranks left
@@ -84,7 +84,7 @@ pub record TypedReady (levels : ℕ) (ranks schema table : List ℕ) (node : ℕ
 pub record ElementsReady (levels : ℕ) (ranks schema table : List ℕ) (node : ℕ) (body : List ℕ) (places ids floor : ℕ) : Type 0 where
   pub names : Dictionary
   pub normal : Dictionary
-  pub ground : Ground names normal ranks schema
+  pub ground : Ground names ranks schema
   pub there : ElementsThere levels names schema table node body
   pub numbered : Numbered names normal ranks (elementIds (there .element) levels schema table node (piecesIn body))
   pub bytes : Bytes body
@@ -94,7 +94,7 @@ pub record ElementsReady (levels : ℕ) (ranks schema table : List ℕ) (node : 
 pub record MembersReady (levels : ℕ) (ranks schema table : List ℕ) (from to : ℕ) (left body : List ℕ) (places ids floor : ℕ) : Type 0 where
   pub names : Dictionary
   pub normal : Dictionary
-  pub ground : Ground names normal ranks schema
+  pub ground : Ground names ranks schema
   pub there : MembersThere levels names schema table from to body
   pub behind : 0 < from
   pub numbered : Numbered names normal ranks (memberIds (there .columns) levels schema table from (piecesIn body))
