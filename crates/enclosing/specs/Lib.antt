@@ -1,0 +1,2 @@
+-- Frames put around what stands in a room.
+pub mod Frames

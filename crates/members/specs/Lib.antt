@@ -1,0 +1,2 @@
+-- A container in normal form, its members by position.
+pub mod Members

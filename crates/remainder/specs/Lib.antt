@@ -1,0 +1,2 @@
+-- The fields of an object that its node does not name, as a leftover.
+pub mod Remainder
