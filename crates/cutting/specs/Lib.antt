@@ -1,0 +1,2 @@
+-- A document's normal value cut along a schema.
+pub mod Cutting
