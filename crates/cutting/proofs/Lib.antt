@@ -1,0 +1,4 @@
+-- What the writers of a row stand on.
+pub mod SkipLaws
+pub mod PassLaws
+pub mod FieldLaws
