@@ -88,7 +88,7 @@ Above names bound columns = (name : List ℕ) → among name columns ≡ true �
 -- The first column's id is such a bound.
 pub first-above : (names : Dictionary) (id : InputId) (name : List ℕ) (more : List (List ℕ)) → rising names ≡ true → Tells names name (At id)
     → rising (name ∷ more) ≡ true → (idOf names name ≡ id .0) × Above names (id .0) (name ∷ more)
-first-above names id name more names-rise (found id below is) rise =
+first-above names id name more names-rise (found _ below is) rise =
     let own : idOf names name ≡ id .0 = rw is at (id-place names (id .0) names-rise below) in
     let in-names : among name names ≡ true = rw is at (among-at names (id .0) below) in
     (own, λ other in-columns known. go other known own in-names (among-either other name more in-columns))

@@ -5,7 +5,7 @@ ghost use lib.ListN.{length};
 ghost use Rattle.heads.specs.Packing.{Readings};
 ghost use Rattle.paper.specs.Limits.{mostRow};
 ghost use Rattle.putting.specs.Put.{Room, PutAs};
-ghost use Rattle.cutting.specs.Cutting.{PlaceReady, placeCut, ListReady, listCut, ObjectReady, objectCut, FieldsReady, fieldsCut, FieldReady, fieldCut};
+ghost use Rattle.cutting.specs.Cutting.{PlaceReady, placeCut, ListReady, listCut, ObjectReady, objectCut, FieldsReady, fieldsCut};
 use crate::passing::is_member;
 use crate::passing::member_from;
 use members::Members;
