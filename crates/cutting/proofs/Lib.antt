@@ -2,3 +2,4 @@
 pub mod SkipLaws
 pub mod PassLaws
 pub mod FieldLaws
+pub mod FieldsLaws
