@@ -3,3 +3,4 @@ pub mod SkipLaws
 pub mod PassLaws
 pub mod FieldLaws
 pub mod FieldsLaws
+pub mod ColumnLaws
