@@ -4,3 +4,6 @@ pub mod PassLaws
 pub mod FieldLaws
 pub mod FieldsLaws
 pub mod ColumnLaws
+pub mod NodeLaws
+pub mod ListLaws
+pub mod ObjectLaws
