@@ -13,7 +13,6 @@ use Rattle.forms.specs.WellFormed.{wellFormed}
 use Rattle.members.specs.Members.{PartThere, memberPart, From}
 use Rattle.members.specs.declared.Members.{Members}
 use Rattle.paper.specs.Framing.{frame}
-use Rattle.paper.specs.Limits.{mostSchema}
 use Rattle.paper.specs.Meaning.{Doc, Fields}
 use Rattle.paper.specs.Metadata.{Dictionary, rising}
 use Rattle.paper.specs.Schemas.{Schema, SchemaFields, noColumns, named, columnNames}
@@ -68,10 +67,11 @@ module _ {levels : ℕ} {ranks schema table : List ℕ} {from to : ℕ} {s : Lis
     first-named = field-named (first .stands)
 
     -- The fields behind are nearer the end.
-    pub first-takes : from < frameEnd schema from
-    first-takes =
+    pub first-falls : {next : ℕ} → next ≡ frameEnd schema from → to - next < to - from
+    first-falls is =
         let inside = first .stands .inside .within in
         let fills = first .stands .fills in
+        let ordered = first .stands .frame-in in
         omega arith
 
     -- ---- the members that were passed on the way to its own

@@ -1,6 +1,7 @@
 -- `list_place`: an array's elements written last to first, those from one on stand up to the end; then the heads.
 use mathlib.Core.Bool.{Bool, true, _&&_}
 use mathlib.Core.List.{List, [], _∷_, _++_}
+use mathlib.Core.Logic.{_⊎_, inl, inr}
 use mathlib.Core.Path.{_≡_, refl, sym, ap, _∙_}
 use Prim.Native.Nat.{ℕ, zero, suc, _+_, _-_, _≤_, _<_}
 use native.Mathlib.Omega.{arith}
@@ -93,6 +94,14 @@ no-list element null other = refl
 no-list element (scalar a) other = refl
 no-list element (array ds) other = absurd (other ds refl)
 no-list element (object fs) other = refl
+
+-- A reading that is the fifth is none of the others.
+pub no-other : (_≡_ {A = ℕ} 4 0) ⊎ ((_≡_ {A = ℕ} 4 1) ⊎ ((_≡_ {A = ℕ} 4 2) ⊎ ((_≡_ {A = ℕ} 4 3) ⊎ (_≡_ {A = ℕ} 4 5)))) → ⊥
+no-other (inl e) = omega arith
+no-other (inr (inl e)) = omega arith
+no-other (inr (inr (inl e))) = omega arith
+no-other (inr (inr (inr (inl e)))) = omega arith
+no-other (inr (inr (inr (inr e)))) = omega arith
 
 -- ---- the loop
 

@@ -1,6 +1,7 @@
 -- `object_place`: an object's places, their head, what is left over in front of that, and the place's head.
 use mathlib.Core.Bool.{Bool, true, _&&_}
 use mathlib.Core.List.{List, [], _∷_, _++_}
+use mathlib.Core.Logic.{_⊎_, inl, inr}
 use mathlib.Core.Path.{_≡_, refl, sym, ap, _∙_}
 use Prim.Native.Nat.{ℕ, zero, suc, _+_, _-_, _*_, _^_, _≤_, _<_}
 use native.Mathlib.Omega.{arith}
@@ -18,6 +19,7 @@ use Rattle.paper.proofs.WordLaws.{never, and-both}
 use Rattle.paper.specs.Bounds.{mostWalked}
 use Rattle.paper.specs.FirstBytes.{readingOf}
 use Rattle.paper.specs.Framing.{frame}
+use Rattle.paper.specs.Limits.{mostRow}
 use Rattle.paper.specs.Meaning.{Doc, null, scalar, array, object, Fields, noFields, field}
 use Rattle.paper.specs.Metadata.{Dictionary, rising}
 use Rattle.paper.specs.Normal.{fieldNames}
@@ -27,7 +29,7 @@ use Rattle.paper.specs.Shredding.{unnamed, withRest, cut, cutFields, placeBytes
 use Rattle.paper.specs.Words.{at}
 use Rattle.paper.specs.declared.Reading.the-variants.{ObjectHead}
 use Rattle.paper.specs.declared.Reading.{Reading}
-use Rattle.putting.proofs.PutLaws.{put-join, told-here, told-full}
+use Rattle.putting.proofs.PutLaws.{put-join, told-here, told-full, told-length, told-room}
 use Rattle.putting.specs.Put.{Room, PutAs, full}
 use Rattle.putting.specs.declared.Put.the-variants.{At, Full}
 use Rattle.putting.specs.declared.Put.{Put}
@@ -45,11 +47,28 @@ no-fields columns (scalar a) other = refl
 no-fields columns (array ds) other = refl
 no-fields columns (object fs) other = absurd (other fs refl)
 
+-- A reading that is the fourth is none of the others.
+pub other-tag : (_≡_ {A = ℕ} 3 0) ⊎ ((_≡_ {A = ℕ} 3 1) ⊎ ((_≡_ {A = ℕ} 3 2) ⊎ ((_≡_ {A = ℕ} 3 4) ⊎ (_≡_ {A = ℕ} 3 5)))) → ⊥
+other-tag (inl e) = omega arith
+other-tag (inr (inl e)) = omega arith
+other-tag (inr (inr (inl e))) = omega arith
+other-tag (inr (inr (inr (inl e)))) = omega arith
+other-tag (inr (inr (inr (inr e)))) = omega arith
+
 -- What is left over in front of what is typed.
 rest-bytes : (names : Dictionary) (left : Fields) (t : Typed) → placeBytes names (withRest left t) ≡ frame 0x50 (restBytes names left ++ frame 0x42 (typedBytes names t))
 unfolding placeBytes withRest restBytes
 rest-bytes names noFields t = refl
 rest-bytes names (field name d fs) t = refl
+
+-- What was put leaves room for a head in front of it.
+asked : (tag : ℕ) {bytes before after : List ℕ} {start end : ℕ} {q : Put} → Room before 0 end → length before ≤ mostRow → PutAs bytes before after 0 end q → q ≡ At start
+    → tag < 256 → Room after 0 start × (start ≤ end) × (end ≤ length after) × (length after ≤ mostRow) × (tag < 256)
+asked tag room short done here small =
+    let size = told-here done here .1 .size in
+    let within = room .within in
+    let same = told-length done within here in
+    (told-room done room here, omega arith, omega arith, omega arith, small)
 
 module _ {levels : ℕ} {ranks schema table : List ℕ} {from to : ℕ} {s : List ℕ} {notes ids : ℕ}
     (ready : ObjectReady levels ranks schema table from to s notes ids) where
@@ -185,3 +204,18 @@ module _ {levels : ℕ} {ranks schema table : List ℕ} {from to : ℕ} {s : Lis
                   → PutAs (frameHead 0x50 (end - first)) last after 0 first u → PutAs (objectCut ready) before after 0 end u
               object-put done-left at-first outer =
                   rw object-is (put-framed 0x50 (left ++ frame 0x42 places) fits (told-here (left-put done-left) at-first .1) outer)
+
+          -- ---- what the calls ask of the room
+
+          pub places-asked : {before middle : List ℕ} {start end : ℕ} {q : Put} → Room before 0 end → length before ≤ mostRow → PutAs places before middle 0 end q
+              → q ≡ At start → Room middle 0 start × (start ≤ end) × (end ≤ length middle) × (length middle ≤ mostRow) × (0x42 < 256)
+          places-asked room short done here = asked 0x42 room short done here (omega arith)
+
+          module _ {before middle : List ℕ} {start end : ℕ} {q : Put} (room : Room before 0 end) (short : length before ≤ mostRow) (done : PutAs places before middle 0 end q)
+              (here : q ≡ At start) {more : List ℕ} {typed : ℕ} {p : Put} (head : PutAs (frameHead 0x42 (end - start)) middle more 0 start p) (at-typed : p ≡ At typed) where
+            pub typed-asked : Room more 0 typed × (length more ≤ mostRow)
+            typed-asked = let all = asked 0x42 room short (typed-put (room .within) done here head) at-typed (omega arith) in (all .0, all .3)
+
+            pub left-asked : {last : List ℕ} {first : ℕ} {o : Put} → PutAs left more last 0 typed o → o ≡ At first
+                → Room last 0 first × (first ≤ end) × (end ≤ length last) × (length last ≤ mostRow) × (0x50 < 256)
+            left-asked done-left at-first = asked 0x50 room short (left-put (room .within) done here head at-typed done-left) at-first (omega arith)

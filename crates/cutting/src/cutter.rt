@@ -189,20 +189,20 @@ fn fields(
     let Put::At(start) = behind else {
         return Put::Full;
     };
-    if !is_member(table, from, s, members, here) {
-        return enclosing::empty(out, start);
+    if is_member(table, from, s, members, here) {
+        return place(
+            levels,
+            readings,
+            ranks,
+            schema,
+            table,
+            schemas::field_node(schema, from),
+            part_at(s, members, here),
+            notes,
+            ids,
+            out,
+            start,
+        );
     }
-    place(
-        levels,
-        readings,
-        ranks,
-        schema,
-        table,
-        schemas::field_node(schema, from),
-        part_at(s, members, here),
-        notes,
-        ids,
-        out,
-        start,
-    )
+    enclosing::empty(out, start)
 }

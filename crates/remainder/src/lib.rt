@@ -28,7 +28,6 @@ pub fn rest(
     end: usize,
 ) -> Put
     requires { ⌜ Readings (now readings) × Room (now out) 0 end × (length (now out) ≤ mostRow) × RestReady (now ranks) (now schema) (now table) from to (now s) members (length (now notes)) (length (now ids)) ⌝ }
-    requires { ⌜ ⊥ ⌝ }
     ensures { λ r. ⌜ ((ready : RestReady (now (ranks .entry)) (now (schema .entry)) (now (table .entry)) from to (now (s .entry)) members (length (now (notes .entry))) (length (now (ids .entry)))) → PutAs (restBytes (ready .names) (unnamed (columnNames (ready .columns)) (ready .fs))) (now (out .entry)) (now (out .exit)) 0 end r) ⌝ }
 {
     Put::At(end)
