@@ -2,5 +2,6 @@
 pub mod ReachLaws
 pub mod StandLaws
 pub mod HeldLaws
+pub mod FromLaws
 pub mod ShapeLaws
 pub mod OpenLaws
