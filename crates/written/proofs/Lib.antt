@@ -1,0 +1,9 @@
+-- Laws of what shred writes.
+pub mod CellLaws
+pub mod FieldLaws
+pub mod FewerLaws
+pub mod FittingLaws
+pub mod PieceLaws
+pub mod PlaceLaws
+pub mod LawfulLaws
+pub mod MeaningLaws

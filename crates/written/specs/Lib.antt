@@ -1,0 +1,2 @@
+-- What the laws of written rows speak of.
+pub mod Fitting
