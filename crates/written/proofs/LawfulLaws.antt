@@ -1,6 +1,6 @@
 -- What a document is cut into breaks no rule: a leftover beside something typed is an object of fields that its node does not
 -- name, no element is empty, and a field that is present has its name in the dictionary.
-use mathlib.Core.Bool.{Bool, true, false, cond, not, _&&_, _||_}
+use mathlib.Core.Bool.{Bool, true, false, cond, not, _&&_, _||_, and-false}
 use mathlib.Core.List.{List}
 use mathlib.Core.Option.{Option, none, some}
 use mathlib.Core.Path.{_≡_, refl}
@@ -71,13 +71,6 @@ module _ (typedLawful : Typed → Bool) where
   unfolding placeLawfulBy breaksA breaksB breaksC breaksD hasLeftover hasTyped leftoverOf isObject isArray insideLawful
   empty-lawful node = refl
 
-no-typed : (d : Doc) → (isObject d && false) || (isArray d && false) ≡ false
-unfolding isObject isArray
-no-typed null = refl
-no-typed (scalar value) = refl
-no-typed (array ds) = refl
-no-typed (object fs) = refl
-
 scalar-lawful : (said : Column) (value : Scalar) → placeLawfulBy (column said) cellLawful (cutScalar said value) ≡ true
 unfolding cutScalar cellLawful isObject isArray
 scalar-lawful said value = go (takes said value)
@@ -116,7 +109,7 @@ module _ (names : Dictionary) where
     unfolding cut placeLawful innerLawful isObject isArray isFieldsNode isListNode namesThere
 
     pub cut-lawful : (node : Schema) (d : Doc) → namesThere names d ≡ true → placeLawful node names (cut node d) ≡ true
-    cut-lawful leftoverOnly d there = left-lawful cellLawful leftoverOnly d (no-typed d)
+    cut-lawful leftoverOnly d there = left-lawful cellLawful leftoverOnly d (rw (and-false (isObject d), and-false (isArray d)))
     cut-lawful (column said) null there = left-lawful cellLawful (column said) null refl
     cut-lawful (column said) (scalar value) there = scalar-lawful said value
     cut-lawful (column said) (array ds) there = left-lawful cellLawful (column said) (array ds) refl

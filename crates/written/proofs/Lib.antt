@@ -7,3 +7,6 @@ pub mod PieceLaws
 pub mod PlaceLaws
 pub mod LawfulLaws
 pub mod MeaningLaws
+pub mod RowLaws
+pub mod ColumnLaws
+pub mod ShredLaws

@@ -7,9 +7,10 @@ use Rattle.forms.specs.WellFormed.{allDocs, allMembers, wellFormed, namesThere,
 use Rattle.paper.specs.Limits.{mostMetadata, mostValue, mostRow, mostLeftover, mostLevels}
 use Rattle.paper.specs.Meaning.{Doc, Docs, Fields}
 use Rattle.paper.specs.Metadata.{Dictionary}
-use Rattle.paper.specs.Normal.{valueBytes, elementBytes, memberBytes, normalForm}
+use Rattle.paper.specs.Normal.{namesUsed, valueBytes, elementBytes, memberBytes, normalForm}
+use Rattle.paper.specs.Rows.{Row}
 use Rattle.paper.specs.Schemas.{Schema}
-use Rattle.paper.specs.Shredding.{rowBytes}
+use Rattle.paper.specs.Shredding.{cut, rowBytes}
 use Rattle.paper.specs.Words.{joined}
 use Rattle.schemas.specs.Written.{goodSchema}
 
@@ -37,3 +38,7 @@ pub record RowFits (node : Schema) (d : Doc) : Type 0 where
   pub value-fits : length (normalForm d .value) ≤ mostValue
   pub metadata-fits : length (normalForm d .metadata) ≤ mostMetadata
   pub row-fits : length (rowBytes node d) ≤ mostRow
+
+-- Its row, as it is read back: the names used in it, and what it is cut into.
+abbrev pub cutRow : Schema → Doc → Row
+cutRow node d = record { names = namesUsed d; outermost = cut node d }
