@@ -8,10 +8,10 @@ use native.Mathlib.Omega.{arith}
 use lib.ListN.{length, length-append}
 use Rattle.forms.proofs.BackLaws.{ids-length}
 use Rattle.forms.proofs.ContainerLaws.{array-fit, object-fit}
-use Rattle.forms.specs.WellFormed.{allDocs, allMembers, wellFormedBy, wellFormed, namesThere, allNamesThere, fieldNamesThere}
+use Rattle.forms.specs.WellFormed.{scalarGood, allDocs, allMembers, wellFormedBy, wellFormed, namesThere, allNamesThere, fieldNamesThere}
 use Rattle.paper.proofs.WordLaws.{never, and-both}
 use Rattle.paper.specs.Limits.{mostLeftover}
-use Rattle.paper.specs.Meaning.{Doc, array, object, Docs, doc, Fields, field}
+use Rattle.paper.specs.Meaning.{Scalar, Doc, scalar, array, object, Docs, doc, Fields, field}
 use Rattle.paper.specs.Metadata.{Dictionary, rising}
 use Rattle.paper.specs.Normal.{idOf, fieldNames, valueBytes, elementBytes, memberBytes}
 use Rattle.paper.specs.Shredding.{unnamed}
@@ -21,7 +21,12 @@ use Rattle.written.proofs.FieldLaws.{found-holds, unnamed-rises, unname
 use Rattle.written.proofs.FewerLaws.{unnamed-shorter}
 use Rattle.written.specs.Fitting.{Fits, ElementsFit, MembersFit}
 
--- ---- one level less
+-- ---- what is well formed
+
+pub scalar-good : (levels : ℕ) (value : Scalar) → wellFormed levels (scalar value) ≡ true → scalarGood value ≡ true
+unfolding wellFormed wellFormedBy
+scalar-good zero value good = never (sym good)
+scalar-good (suc levels) value good = good
 
 pub elements-good : (levels : ℕ) (ds : Docs) → wellFormed levels (array ds) ≡ true → allDocs (wellFormed (levels - 1)) ds ≡ true
 unfolding wellFormed wellFormedBy

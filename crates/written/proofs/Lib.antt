@@ -6,6 +6,7 @@ pub mod FittingLaws
 pub mod PieceLaws
 pub mod PlaceLaws
 pub mod LawfulLaws
+pub mod MergedLaws
 pub mod MeaningLaws
 pub mod RowLaws
 pub mod ColumnLaws

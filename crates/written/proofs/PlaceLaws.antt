@@ -3,15 +3,13 @@
 use mathlib.Core.Bool.{Bool, true, false, cond}
 use mathlib.Core.List.{List}
 use mathlib.Core.Option.{Option, none, some}
-use mathlib.Core.Path.{_≡_, refl, sym}
-use Prim.Native.Nat.{ℕ, zero, suc, _-_, _^_, _≤_, _<_}
+use mathlib.Core.Path.{_≡_, refl}
+use Prim.Native.Nat.{ℕ, _-_, _^_, _≤_, _<_}
 use native.Mathlib.Omega.{arith}
 use borrow.Author.Tests.{le-leb}
 use lib.ListN.{length, length-append}
 use Rattle.forms.proofs.BackLaws.{value-back}
-use Rattle.forms.specs.WellFormed.{scalarGood, wellFormedBy, wellFormed}
 use Rattle.frames.proofs.BackLaws.{length-frame}
-use Rattle.paper.proofs.WordLaws.{never}
 use Rattle.paper.specs.Cells.{takes}
 use Rattle.paper.specs.Framing.{Piece, frame}
 use Rattle.paper.specs.Limits.{mostLeftover}
@@ -26,14 +24,9 @@ use Rattle.paper.specs.Words.{given, andThen}
 use Rattle.schemas.proofs.GoodLaws.{good-element, good-object, good-field}
 use Rattle.schemas.specs.Written.{goodSchema, goodFields}
 use Rattle.written.proofs.CellLaws.{cell-back}
-use Rattle.written.proofs.FittingLaws.{fits-elements, first-fits, others-fit, fits-members, member-fits, unnamed-fits}
+use Rattle.written.proofs.FittingLaws.{scalar-good, fits-elements, first-fits, others-fit, fits-members, member-fits, unnamed-fits}
 use Rattle.written.proofs.PieceLaws.{placeBody, placePiece, placePieces, places-length, empty-back, leftover-back, typed-back, both-back, inner-back}
 use Rattle.written.specs.Fitting.{Fits, ElementsFit, MembersFit}
-
-scalar-good : {names : Dictionary} (levels : ℕ) {value : Scalar} → Fits names levels (scalar value) → scalarGood value ≡ true
-unfolding wellFormed wellFormedBy
-scalar-good zero fits = never (sym (fits .good))
-scalar-good (suc levels) fits = fits .good
 
 module _ (names : Dictionary) (few : length names ≤ 2 ^ 32) where
   left-means : {levels : ℕ} {d : Doc} → Fits names levels d → leftoverMeaning levels names (valueBytes names d) ≡ some d
@@ -53,7 +46,7 @@ module _ (names : Dictionary) (few : length names ≤ 2 ^ 32) where
   scalar-back {levels} said value fits = go (takes said value) refl
     where
       means : takes said value ≡ true → cellBody said (typedBytes names (cell said value)) ≡ some (cell said value)
-      means taken = unfold cellBody typedBytes andThen in rw (cell-back said value (scalar-good levels fits) taken)
+      means taken = unfold cellBody typedBytes andThen in rw (cell-back said value (scalar-good levels value (fits .good)) taken)
 
       go : (b : Bool) → takes said value ≡ b → length (placeBody names (cond b (typed (cell said value)) (leftover (scalar value)))) < 65536
           → placeWithin levels names (cellBody said) (placePiece names (cond b (typed (cell said value)) (leftover (scalar value))))

@@ -18,13 +18,14 @@ use Rattle.paper.specs.Metadata.{dictionaryOf}
 use Rattle.paper.specs.Normal.{Document, normalForm}
 use Rattle.paper.specs.Operations.{judged, valueJudged, documentFits, checkOutcome, writable, normaliseOutcome, shredOutcome, rebuildOutcome}
 use Rattle.paper.specs.Refusals.{Outcome, reached, require, obtain}
+use Rattle.paper.specs.Rows.{rowOf}
 use Rattle.paper.specs.Schemas.{Schema, schemaOf}
 use Rattle.paper.specs.Shredding.{rowBytes}
 use Rattle.paper.specs.Values.{meaningOf}
 use Rattle.paper.specs.declared.Refusal.the-variants.{TooLong, BadSchema, TooLarge}
 use Rattle.schemas.proofs.GoodLaws.{schema-good}
-use Rattle.written.proofs.RowLaws.{row-rebuilt, same-row}
-use Rattle.written.specs.Fitting.{RowFits}
+use Rattle.written.proofs.RowLaws.{row-back, row-rebuilt, same-row}
+use Rattle.written.specs.Fitting.{RowFits, cutRow}
 
 -- What `shred` has seen of a document and a schema that it accepts.
 pub record Shredded (schema metadata value row : List ℕ) : Type 0 where
@@ -89,6 +90,10 @@ module _ {schema metadata value row : List ℕ} (s : Shredded schema metadata va
           row-fits = s .row-fits;
         }
 
+    -- It is read back, place by place.
+    pub shredded-back : rowOf (s .node) row ≡ some (cutRow (s .node) (s .document .d))
+    shredded-back = ap (rowOf (s .node)) (sym (s .row-is)) ∙ row-back (s .node) (s .document .d) shredded-fits
+
     shredded-rebuilt : rebuildOutcome schema row ≡ normaliseOutcome metadata value
     shredded-rebuilt =
         ap (rebuildOutcome schema) (sym (s .row-is)) ∙ row-rebuilt (s .node) (s .document .d) shredded-fits schema (s .schema-fits) (s .schema-is)
@@ -122,13 +127,17 @@ pub same-shred : (schema metadata value metadata′ value′ : List ℕ) (d d′
 same-shred schema metadata value metadata′ value′ d d′ means means′ same =
     means-shredded schema metadata value d means ∙ ap (shreddedBy schema) same ∙ sym (means-shredded schema metadata′ value′ d′ means′)
 
--- What is in normal form is shredded to the same row.
+-- What is in normal form comes to the same under any schema; so it is shredded to the same row.
+pub shred-normal : (metadata value : List ℕ) (n : Document) → ((i : ℕ) → getD metadata i 0 < 256) → normaliseOutcome metadata value ≡ reached n
+    → (schema : List ℕ) → shredOutcome schema (n .metadata) (n .value) ≡ shredOutcome schema metadata value
+shred-normal metadata value n bytes e schema =
+    let a : Accepted metadata value n = accepted metadata value n e in
+    same-shred schema (n .metadata) (n .value) metadata value (a .d) (a .d) (normal-means metadata value n a bytes) (accepted-means metadata value n a) refl
+
 pub shred-again : (schema metadata value row : List ℕ) (n : Document) → ((i : ℕ) → getD metadata i 0 < 256)
     → shredOutcome schema metadata value ≡ reached row → normaliseOutcome metadata value ≡ reached n
     → shredOutcome schema (n .metadata) (n .value) ≡ reached row
-shred-again schema metadata value row n bytes e normal =
-    let a : Accepted metadata value n = accepted metadata value n normal in
-    same-shred schema (n .metadata) (n .value) metadata value (a .d) (a .d) (normal-means metadata value n a bytes) (accepted-means metadata value n a) refl ∙ e
+shred-again schema metadata value row n bytes e normal = shred-normal metadata value n bytes normal schema ∙ e
 
 -- Two documents under one schema have the same row exactly when they mean the same.
 pub same-shredded : (schema metadata value metadata′ value′ row row′ : List ℕ) → ((i : ℕ) → getD metadata i 0 < 256)
