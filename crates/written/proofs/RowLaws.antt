@@ -20,8 +20,8 @@ use Rattle.paper.specs.Metadata.{Dictionary}
 use Rattle.paper.specs.Normal.{namesUsed, metadataBytes, normalForm}
 use Rattle.paper.specs.Operations.{writable, written, rowJudged, rebuildOutcome}
 use Rattle.paper.specs.Rebuilding.{orNull, rowMeaning}
-use Rattle.paper.specs.Refusals.{reached, require, obtain}
-use Rattle.paper.specs.Rows.{rowParts, rowOf}
+use Rattle.paper.specs.Refusals.{Outcome, reached, require, obtain}
+use Rattle.paper.specs.Rows.{Row, rowParts, rowOf}
 use Rattle.paper.specs.Rules.{rowLawful}
 use Rattle.paper.specs.Schemas.{Schema, schemaOf}
 use Rattle.paper.specs.Shredding.{cut, placeBytes, rowBytes}
@@ -80,20 +80,19 @@ module _ (node : Schema) (d : Doc) (fits : RowFits node d) where
   unfolding rowMeaning orNull
   row-means = rw (cut-means node mostLevels d (fits .node-good) (fits .good))
 
-  -- It is rebuilt to the normal form of its document.
-  pub row-rebuilt : (schema : List ℕ) → length schema ≤ mostSchema → schemaOf schema ≡ some node
-      → rebuildOutcome schema (rowBytes node d) ≡ reached (normalForm d)
-  unfolding rebuildOutcome rowJudged written writable require obtain
-  row-rebuilt schema schema-fits is =
-      rw (
-        le-leb (length schema) mostSchema schema-fits,
-        le-leb (length (rowBytes node d)) mostRow (fits .row-fits),
-        is,
-        row-back,
-        row-lawful node d,
-        row-means,
-        le-leb (length (normalForm d .value)) mostValue (fits .value-fits),
-      )
+  module _ (schema : List ℕ) (schema-fits : length schema ≤ mostSchema) (is : schemaOf schema ≡ some node) where
+    -- It passes every judgement, whatever comes of it, ..
+    pub row-judged : {A : Type 0} (next : Schema → Row → Outcome A) → rowJudged schema (rowBytes node d) next ≡ next node (cutRow node d)
+    unfolding rowJudged require obtain
+    row-judged next =
+        rw (le-leb (length schema) mostSchema schema-fits, le-leb (length (rowBytes node d)) mostRow (fits .row-fits), is, row-back, row-lawful node d)
+
+    -- .. and is rebuilt to the normal form of its document.
+    pub row-rebuilt : rebuildOutcome schema (rowBytes node d) ≡ reached (normalForm d)
+    unfolding rebuildOutcome written writable require
+    row-rebuilt =
+        row-judged (λ node parsed. written (rowMeaning node parsed))
+        ∙ rw (row-means, le-leb (length (normalForm d .value)) mostValue (fits .value-fits))
 
 -- Two documents have the same row exactly when they are equal.
 pub same-row : (node : Schema) (d e : Doc) → RowFits node d → RowFits node e → (rowBytes node d ≡ rowBytes node e) ↔ (d ≡ e)
