@@ -75,7 +75,7 @@ before-all x y ys lower rise = go (among x (y ∷ ys)) refl
     go false e = refl
     go true e = nowhere (among-either x y ys e)
 
-same-sym : (a b : List ℕ) → same a b ≡ false → same b a ≡ false
+pub same-sym : (a b : List ℕ) → same a b ≡ false → same b a ≡ false
 same-sym a b differ = go (same b a) refl
   where
     go : (r : Bool) → same b a ≡ r → r ≡ false

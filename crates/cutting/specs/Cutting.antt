@@ -1,13 +1,17 @@
 -- What the writers of a row stand on: a document's normal value under a dictionary, a node of a good schema, and the table that
 -- tells of its fields. Each writer's answer is told of every such reading of its bytes.
-use mathlib.Core.Bool.{true}
+use mathlib.Core.Bool.{Bool, true, false, _&&_}
 use mathlib.Core.List.{List}
 use mathlib.Core.Path.{_≡_}
-use Prim.Native.Nat.{ℕ, _≤_}
+use Prim.Native.Nat.{ℕ, _≤_, _<_}
+use lib.Dec.{ltb, eqb}
 use lib.ListN.{length}
+use Rattle.dictionary.specs.declared.ids.InputId.{InputId}
 use Rattle.fields.specs.Telling.{Told, FieldsTold}
 use Rattle.forms.specs.WellFormed.{allMembers, wellFormed, namesThere, fieldNamesThere}
-use Rattle.members.specs.Members.{From}
+use Rattle.lookup.specs.declared.Looked.{Looked}
+use Rattle.lookup.specs.declared.Looked.the-variants.{At, Nowhere}
+use Rattle.members.specs.Members.{IdThere, memberId, From}
 use Rattle.members.specs.declared.Members.{Members}
 use Rattle.paper.specs.Limits.{mostValue}
 use Rattle.paper.specs.Meaning.{Doc, Fields}
@@ -88,3 +92,27 @@ pub record FieldsReady (levels : ℕ) (ranks schema table : List ℕ) (from to :
 abbrev pub fieldsCut : {levels : ℕ} {ranks schema table : List ℕ} {from to : ℕ} {s : List ℕ} {m : Members} {k notes ids : ℕ}
     → FieldsReady levels ranks schema table from to s m k notes ids → List ℕ
 fieldsCut ready = placesBytes (ready .names) (cutFields (ready .columns) (ready .fs))
+
+-- ---- members passed over on the way to a field's
+
+-- The members from one on can be read.
+pub record Run (s : List ℕ) (m : Members) (from : ℕ) : Type 0 where
+  pub within : from ≤ m .count
+  pub there : (k : ℕ) → from ≤ k → k < m .count → IdThere s m k
+
+-- Those from one on, up to another, have lower ids than a bound, and the one that is reached has not.
+pub record Passed (s : List ℕ) (m : Members) (from bound to : ℕ) : Type 0 where
+  pub behind : from ≤ to
+  pub within : to ≤ m .count
+  pub lower : (k : ℕ) → from ≤ k → k < to → memberId s m k < bound
+  pub stops : to < m .count → bound ≤ memberId s m to
+
+-- By what a table tells of a field: up to its id, and none if it has no id.
+pub data PassedBy (s : List ℕ) (m : Members) (from : ℕ) : Looked → (to : ℕ) → Type 0 where
+  upTo : (id : InputId) (to : ℕ) → Passed s m from (id .0) to → PassedBy s m from (At id) to
+  none : PassedBy s m from Nowhere from
+
+-- A member is a field's, by what the table tells of the field.
+unfoldable pub isMember : List ℕ → Members → (k : ℕ) → Looked → Bool
+isMember s m k (At id) = ltb k (m .count) && eqb (id .0) (memberId s m k)
+isMember s m k Nowhere = false

@@ -5,7 +5,7 @@ ghost use lib.ListN.{length};
 ghost use Rattle.heads.specs.Packing.{Readings};
 ghost use Rattle.paper.specs.Limits.{mostRow};
 ghost use Rattle.putting.specs.Put.{Room, PutAs};
-ghost use Rattle.cutting.specs.Cutting.{PlaceReady, placeCut, ListReady, listCut, ObjectReady, objectCut, FieldsReady, fieldsCut, FieldReady, fieldCut};
+ghost use Rattle.cutting.specs.Cutting.{PlaceReady, placeCut, ListReady, listCut, ObjectReady, objectCut, FieldsReady, fieldsCut};
 use crate::passing::is_member;
 use crate::passing::member_from;
 use members::Members;
@@ -189,20 +189,20 @@ fn fields(
     let Put::At(start) = behind else {
         return Put::Full;
     };
-    if !is_member(table, from, s, members, here) {
-        return enclosing::empty(out, start);
+    if is_member(table, from, s, members, here) {
+        return place(
+            levels,
+            readings,
+            ranks,
+            schema,
+            table,
+            schemas::field_node(schema, from),
+            part_at(s, members, here),
+            notes,
+            ids,
+            out,
+            start,
+        );
     }
-    place(
-        levels,
-        readings,
-        ranks,
-        schema,
-        table,
-        schemas::field_node(schema, from),
-        part_at(s, members, here),
-        notes,
-        ids,
-        out,
-        start,
-    )
+    enclosing::empty(out, start)
 }

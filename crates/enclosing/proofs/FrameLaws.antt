@@ -42,6 +42,14 @@ module _ (tag size : ℕ) {before : List ℕ} {start : ℕ} where
       let one = byte-ends middle (start - 3) tag {end = start - 3 + 1} small is (omega arith) in
       put (start - 3) (omega arith) (ends-join count within one)
 
+-- In front of its body it makes the frame.
+pub put-framed : (tag : ℕ) (body : List ℕ) {before middle after : List ℕ} {start end : ℕ} {r : Put} → end ≤ length before → EndsAt body before middle end start
+    → PutAs (frameHead tag (end - start)) middle after 0 start r → PutAs (frame tag body) before after 0 end r
+put-framed tag body {before} {middle} {after} {start} {end} {r} within ends head =
+    let all = ends .size in
+    let size : end - start ≡ length body = omega arith in
+    rw (frame-split tag body, ← size) (put-join within ends head)
+
 -- ---- the two heads of a place of one part
 
 module _ (tag end : ℕ) {before middle : List ℕ} {start : ℕ} {r : Put}
@@ -90,11 +98,14 @@ place-split tag body =
     ∙ ap (λ (s : List ℕ). frameHead 0x50 (3 + length body) ++ s) (frame-split tag body)
     ∙ sym (append-assoc (frameHead 0x50 (3 + length body)) (frameHead tag (length body)) body)
 
+pub place-long : (tag : ℕ) (body : List ℕ) → length body ≤ length (placeOf tag body)
+place-long tag body =
+    let long = ap length (place-split tag body) ∙ length-append (frameHead 0x50 (3 + length body) ++ frameHead tag (length body)) body in
+    omega arith
+
 module _ (tag : ℕ) (body : List ℕ) {before : List ℕ} {end : ℕ} where
   pub place-full : {after : List ℕ} → end < length body → PutAs (placeOf tag body) before after 0 end Full
-  place-full short =
-      let long = ap length (place-split tag body) ∙ length-append (frameHead 0x50 (3 + length body) ++ frameHead tag (length body)) body in
-      full (omega arith)
+  place-full short = let long = place-long tag body in full (omega arith)
 
   pub put-place : {middle after : List ℕ} {start : ℕ} {r : Put} → end ≤ length before → EndsAt body before middle end start
       → PutAs (frameHead 0x50 (3 + (end - start)) ++ frameHead tag (end - start)) middle after 0 start r → PutAs (placeOf tag body) before after 0 end r

@@ -40,6 +40,16 @@ pub record Writable (levels : ℕ) (d : Doc) : Type 0 where
 value-small : (n : ℕ) → n ≤ mostValue → n < 2 ^ 32
 value-small n h = omega arith
 
+-- Short metadata has few names, and short ones.
+pub short-writable : (levels : ℕ) (d : Doc) → wellFormed levels d ≡ true → length (valueBytes (namesUsed d) d) ≤ mostValue
+    → length (metadataBytes (namesUsed d)) ≤ mostMetadata → Writable levels d
+short-writable levels d good value-fits metadata-fits =
+    let used : Dictionary = namesUsed d in
+    let size = metadata-length used in
+    let table : (length used + 1) * 1 ≤ (length used + 1) * metadataWidth used = mul-le-mul (omega arith) (width-bounds used .0) in
+    let one = mul-one (length used + 1) in
+    record { good = good; value-fits = value-fits; names-few = omega arith; names-short = omega arith }
+
 module _ (levels : ℕ) (d : Doc) (writable : Writable levels d) where
   pub normal-back : (dictionaryOf (normalForm d .metadata) ≡ some (namesUsed d)) × (meaningOf levels (namesUsed d) (normalForm d .value) ≡ some d)
   unfolding normalForm
@@ -65,13 +75,13 @@ same-normal levels a b writable-a writable-b = (equal, ap normalForm)
 
 -- ---- what is accepted
 
-require-reached : {A : Type 0} (refusal : Refusal) (b : Bool) (next : Outcome A) {a : A} → require b refusal next ≡ reached a
+pub require-reached : {A : Type 0} (refusal : Refusal) (b : Bool) (next : Outcome A) {a : A} → require b refusal next ≡ reached a
     → (b ≡ true) × (next ≡ reached a)
 unfolding require
 require-reached refusal true next e = (refl, e)
 require-reached refusal false next e = absurd (let z : _≡_ {A = ℕ} 0 1 = cc in omega arith)
 
-obtain-reached : {A B : Type 0} (refusal : Refusal) (x : Option A) (next : A → Outcome B) {b : B} → obtain x refusal next ≡ reached b
+pub obtain-reached : {A B : Type 0} (refusal : Refusal) (x : Option A) (next : A → Outcome B) {b : B} → obtain x refusal next ≡ reached b
     → (a : A) × (x ≡ some a) × (next a ≡ reached b)
 unfolding obtain
 obtain-reached refusal none next e = absurd (let z : _≡_ {A = ℕ} 0 1 = cc in omega arith)
@@ -133,17 +143,9 @@ module _ (metadata value : List ℕ) (n : Document) (a : Accepted metadata value
 
   pub accepted-writable : Writable mostLevels (a .d)
   accepted-writable =
-      let size = metadata-length used in
       let shorter = normal-shorter in
       let fit : length metadata ≤ mostMetadata = a .metadata-fits in
-      let table : (length used + 1) * 1 ≤ (length used + 1) * metadataWidth used = mul-le-mul (omega arith) (width-bounds used .0) in
-      let one = mul-one (length used + 1) in
-      record {
-        good = decoded-well-formed mostLevels (a .names) value (a .d) (a .value-is);
-        value-fits = a .written-fits;
-        names-few = omega arith;
-        names-short = omega arith;
-      }
+      short-writable mostLevels (a .d) (decoded-well-formed mostLevels (a .names) value (a .d) (a .value-is)) (a .written-fits) (omega arith)
 
   normal-accepted : Accepted (normalForm (a .d) .metadata) (normalForm (a .d) .value) (normalForm (a .d))
   unfolding normalForm
@@ -172,12 +174,21 @@ normal-again metadata value n bytes e =
 
 -- ---- lent documents: the same normal form exactly when they mean the same
 
-accepted-means : (metadata value : List ℕ) (n : Document) (a : Accepted metadata value n) → checkOutcome metadata value ≡ reached (a .d)
+pub accepted-means : (metadata value : List ℕ) (n : Document) (a : Accepted metadata value n) → checkOutcome metadata value ≡ reached (a .d)
 unfolding checkOutcome documentFits judged valueJudged require obtain
 accepted-means metadata value n a =
     rw (le-leb (length metadata) mostMetadata (a .metadata-fits), le-leb (length value) mostValue (a .value-fits), a .metadata-is, a .value-is)
 
-same-reached : {a b : Doc} → _≡_ {A = Outcome Doc} (reached a) (reached b) → a ≡ b
+-- What is in normal form means the same.
+pub normal-means : (metadata value : List ℕ) (n : Document) (a : Accepted metadata value n) → ((i : ℕ) → getD metadata i 0 < 256)
+    → checkOutcome (n .metadata) (n .value) ≡ reached (a .d)
+unfolding normal-accepted
+normal-means metadata value n a bytes =
+    let form : Document = normalForm (a .d) in
+    ap (λ (f : Document). checkOutcome (f .metadata) (f .value)) (sym (a .written-is))
+    ∙ accepted-means (form .metadata) (form .value) form (normal-accepted metadata value n a bytes)
+
+pub same-reached : {a b : Doc} → _≡_ {A = Outcome Doc} (reached a) (reached b) → a ≡ b
 same-reached e = cc
 
 pub same-meaning : (metadata value metadata′ value′ : List ℕ) → ((i : ℕ) → getD metadata i 0 < 256) → ((i : ℕ) → getD metadata′ i 0 < 256)

@@ -1,3 +1,4 @@
 -- Laws of frames.
 pub mod PieceLaws
 pub mod FrameLaws
+pub mod BackLaws

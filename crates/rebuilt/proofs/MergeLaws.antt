@@ -39,12 +39,12 @@ or-false-both true b e = never e
 or-false-both false b e = (refl, e)
 
 -- A field that comes before the first of some stays in front.
-insert-before : (name first : List ℕ) (d e : Doc) (more : Fields) → before name first ≡ true
+pub insert-before : (name first : List ℕ) (d e : Doc) (more : Fields) → before name first ≡ true
     → insertField name d (field first e more) ≡ field name d (field first e more)
 unfolding insertField insertFieldBy orderOf
 insert-before name first d e more lower = rw lower
 
-insert-behind : (name first : List ℕ) (d e : Doc) (more : Fields) → before first name ≡ true
+pub insert-behind : (name first : List ℕ) (d e : Doc) (more : Fields) → before first name ≡ true
     → insertField name d (field first e more) ≡ field first e (insertField name d more)
 unfolding insertField insertFieldBy orderOf
 insert-behind name first d e more higher = rw (before-asymmetric first name higher, higher)

@@ -1,0 +1,3 @@
+-- What the laws of written rows speak of.
+pub mod Fitting
+pub mod Everywhere
