@@ -191,7 +191,7 @@ module _ {m : List ℕ} {names : Names} {v : List ℕ} (lent : Lent m names v) {
         let most : length (valueBytes (namesUsed (meant .0)) (meant .0)) ≤ 2 * length v =
         normal-grows mostLevels (namesIn m) v (meant .0) (meant .1) value-bytes (omega arith) (omega arith) in
         never-short (meant .0) (answers (meant .0) (meant .1)) e λ fits.
-        (let shorter = metadata-shorter (meant .0) (meant .1) fits in let room = scratch .metadata-room in omega arith, scratch .value-room _ most fits)
+        (let shorter = metadata-shorter (meant .0) (meant .1) fits in let room = scratch .metadata-room in omega arith, let room = scratch .value-room in omega arith)
 
     module _ {schema : List ℕ} (short : length schema ≤ mostSchema) {k l : ℕ} (e : a ≡ document.Done k l) where
       done-normal : (node : Schema) (d : Doc) → schemaOf schema ≡ some node → meaningOf mostLevels (namesIn m) v ≡ some d

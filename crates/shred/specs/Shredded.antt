@@ -3,7 +3,7 @@ use mathlib.Core.Bool.{true}
 use mathlib.Core.List.{List, _++_}
 use mathlib.Core.Option.{some}
 use mathlib.Core.Path.{_≡_}
-use Prim.Native.Nat.{ℕ, _*_, _/_, _≤_, _<_}
+use Prim.Native.Nat.{ℕ, _*_, _/_, _≤_, _<_, min}
 use lib.Dec.{leb}
 use lib.ListN.{length, getD}
 use Rattle.fields.specs.Telling.{Told}
@@ -57,7 +57,7 @@ pub record Tabled (ranks schema table metadata value : List ℕ) : Type 0 where
 -- Scratch for metadata and a value of some lengths: room for their normal forms, and tables and a room of lengths that go with it.
 pub record Scratch (metadata value normalMetadata normalValue ranks notes ids room : ℕ) : Type 0 where
   pub metadata-room : metadata ≤ normalMetadata
-  pub value-room : (n : ℕ) → n ≤ 2 * value → n ≤ mostValue → n ≤ normalValue
+  pub value-room : min (2 * value) mostValue ≤ normalValue
   pub ranks-room : normalMetadata ≤ ranks
   pub notes-room : normalValue ≤ notes
   pub ids-room : normalValue ≤ ids

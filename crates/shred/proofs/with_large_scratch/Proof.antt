@@ -1,4 +1,4 @@
--- `with_large_scratch`: lengths that suffice.
+-- `with_large_scratch`: there is room for all that may be written.
 use native.Mathlib.Omega.{arith}
 use borrow.Author.Needs.{needs}
 use Rattle.shred.proofs.with_large_scratch.Statement.{statement}
@@ -8,19 +8,8 @@ with-scratch-requires : tie.Need-with-scratch-requires
 with-scratch-requires c κs =
     let pre = c .before .before .before .before .before .before .before .before .before .before .before .pre in
     let metadata-short = pre .0 .metadata-short in
-    let value-short = pre .0 .value-short in (
-      pre .0,
-      pre .1,
-      pre .2,
-      record {
-        metadata-room = omega arith;
-        value-room = λ n h k. omega arith;
-        ranks-room = omega arith;
-        notes-room = omega arith;
-        ids-room = omega arith;
-        room-short = omega arith;
-      },
-    )
+    let value-short = pre .0 .value-short in
+    (pre .0, pre .1, pre .2, record { metadata-room = omega arith; value-room = omega arith; ranks-room = omega arith; notes-room = omega arith; ids-room = omega arith; room-short = omega arith })
 
 pub with-large-scratch-spec : {M : Type 1} → statement M
 with-large-scratch-spec =
