@@ -11,7 +11,7 @@ place-requires : tie.Need-place-requires
 unfolding readings
 place-requires c κs =
     let pre = c .before .before .before .before .before .before .before .before .before .before .before .before .before .pre in
-    (readings-all, record { above = omega arith; within = omega arith; small = omega (arith, pre .3) }, pre .3, place-ready (pre .0) (pre .1) (pre .2), ?)
+    (readings-all, record { above = omega arith; within = omega arith; small = omega (arith, pre .3) }, pre .3, place-ready (pre .0) (pre .1) (pre .2))
 
 returns : tie.Need-returns
 returns c = let pre = c .before .before .before .before .before .before .before .before .before .before .before .before .before .before .before .before .before .before .before .before .before .before .pre in λ ready. place-nowhere ready (pre .1) (pre .2) (c .before .before .before .before .before .before .before .before .place .ensures) (c .enum-told .given .1)
