@@ -115,7 +115,7 @@ module _ {levels : ℕ} {ranks schema table : List ℕ} {from to : ℕ} {s : Lis
         split =
             ap (λ (columns : SchemaFields). placesBytes (ready .names) (cutFields columns (ready .fs))) (first .are)
             ∙ ap (placesBytes (ready .names))
-              (passed-cut (ready .held) passed (first .name) (first .node) (first .more) (ready .ground .rises) (told .here) rise (ready .there))
+            (passed-cut (ready .held) passed (first .name) (first .node) (first .more) (ready .ground .rises) (told .here) rise (ready .there))
 
         pub fields-full : {before after : List ℕ} {end : ℕ} {r : Put} → PutAs (fieldsCut next-ready) before after 0 end r → r ≡ Full
             → PutAs (fieldsCut ready) before after 0 end Full

@@ -141,7 +141,20 @@ fn object_place(
     };
     let members = members_of(s, count, id, offset);
     let inner = fields(
-        levels, readings, ranks, schema, table, from, to, s, members, 0, notes, ids, out, end,
+        levels,
+        readings,
+        ranks,
+        schema,
+        table,
+        from,
+        to,
+        s,
+        members,
+        0,
+        notes,
+        ids,
+        out,
+        end,
     );
     let Put::At(places) = inner else {
         return Put::Full;
@@ -150,7 +163,18 @@ fn object_place(
         return Put::Full;
     };
     let left = remainder::rest(
-        readings, ranks, schema, table, from, to, s, members, notes, ids, out, typed,
+        readings,
+        ranks,
+        schema,
+        table,
+        from,
+        to,
+        s,
+        members,
+        notes,
+        ids,
+        out,
+        typed,
     );
     let Put::At(start) = left else {
         return Put::Full;
@@ -184,7 +208,20 @@ fn fields(
     let here = member_from(table, from, s, members, k);
     let next = schemas::frame_end(schema, from);
     let behind = fields(
-        levels, readings, ranks, schema, table, next, to, s, members, here, notes, ids, out, end,
+        levels,
+        readings,
+        ranks,
+        schema,
+        table,
+        next,
+        to,
+        s,
+        members,
+        here,
+        notes,
+        ids,
+        out,
+        end,
     );
     let Put::At(start) = behind else {
         return Put::Full;

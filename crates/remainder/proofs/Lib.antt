@@ -4,6 +4,8 @@ pub mod PassLaws
 pub mod CopyLaws
 pub mod UnnamedLaws
 pub mod NamedLaws
+pub mod TableLaws
+pub mod LeftLaws
 pub mod NoteLaws
 pub mod FilledLaws
 pub mod RestLaws

@@ -12,18 +12,18 @@ object-requires c κs =
     let some = copied .before .before .before in
     let noted = some .before .before .before .before .before in
     let pre = noted .before .before .before .before .before .before .before .before .before .before .before .pre in
-    let asks = rest-members (noted .note-left .ensures) (some .if1 .left) (pre .1) (copied .copy-noted .ensures) (known .before .parts .given .1) (pre .3) in
-    ((pre .0, asks .0, asks .1, asks .2, asks .3), rest-ids (noted .note-left .ensures) (pre .3))
+    let asks = rest-members (pre .3) (noted .note-left .ensures) (some .if1 .left) (pre .1) (copied .copy-noted .ensures) (known .before .parts .given .1) in
+    ((pre .0, asks .0, asks .1, asks .2, asks .3), rest-ids (pre .3) (noted .note-left .ensures))
 
 returns-3 : tie.Need-returns-3
-returns-3 c =
+returns-3 c ready =
     let headed = c .before .before .before .before in
     let known = headed .before .before .before in
     let copied = known .before .before .before .before .before in
     let some = copied .before .before .before in
     let noted = some .before .before .before .before .before in
     let pre = noted .before .before .before .before .before .before .before .before .before .before .before .pre in
-    rest-full-head (noted .note-left .ensures) (some .if1 .left) (pre .1) (copied .copy-noted .ensures) (known .before .parts .given .1) (headed .object .ensures)
+    rest-full-head ready (noted .note-left .ensures) (some .if1 .left) (pre .1) (copied .copy-noted .ensures) (known .before .parts .given .1) (headed .object .ensures)
     (c .enum-told2 .given .1)
 
 head-requires : tie.Need-head-requires
@@ -35,11 +35,11 @@ head-requires c κs =
     let some = copied .before .before .before in
     let noted = some .before .before .before .before .before in
     let pre = noted .before .before .before .before .before .before .before .before .before .before .before .pre in
-    rest-asks (noted .note-left .ensures) (some .if1 .left) (pre .1) (copied .copy-noted .ensures) (known .before .parts .given .1) (headed .object .ensures)
-    (found .start .given .1) (pre .3) (pre .2)
+    rest-asks (pre .3) (noted .note-left .ensures) (some .if1 .left) (pre .1) (copied .copy-noted .ensures) (known .before .parts .given .1) (headed .object .ensures)
+    (found .start .given .1) (pre .2)
 
 returns-4 : tie.Need-returns-4
-returns-4 c =
+returns-4 c ready =
     let framed = c .before .before in
     let found = framed .before .before .before in
     let headed = found .before .before .before .before in
@@ -48,7 +48,7 @@ returns-4 c =
     let some = copied .before .before .before in
     let noted = some .before .before .before .before .before in
     let pre = noted .before .before .before .before .before .before .before .before .before .before .before .pre in
-    rest-put (noted .note-left .ensures) (some .if1 .left) (pre .1) (copied .copy-noted .ensures) (known .before .parts .given .1) (headed .object .ensures)
+    rest-put ready (noted .note-left .ensures) (some .if1 .left) (pre .1) (copied .copy-noted .ensures) (known .before .parts .given .1) (headed .object .ensures)
     (found .start .given .1) (framed .head .ensures)
 
 pub rest-spec : {M : Type 1} → statement M
