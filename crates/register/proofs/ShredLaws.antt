@@ -28,8 +28,8 @@ use Rattle.paper.specs.declared.Refusal.the-variants.{TooLong, BadSchema}
 use Rattle.paper.specs.declared.Refusal.{Refusal}
 use Rattle.paper.specs.declared.RowAnswer.the-variants as row
 use Rattle.paper.specs.declared.RowAnswer.{RowAnswer}
-use Rattle.shred.proofs.HandLaws.{refused-row}
-use Rattle.shred.specs.Shredded.{RowAnswered}
+use Rattle.handing.proofs.HandLaws.{refused-row}
+use Rattle.handing.specs.Handing.{RowAnswered}
 use Rattle.words.specs.Boundary.{rowHasRoom}
 use Rattle.register.proofs.DocumentAnswers.{judged-lawful, judged-refused, lawful, refused-same}
 

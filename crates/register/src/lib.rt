@@ -19,7 +19,7 @@ ghost use Rattle.paper.specs.Refusals.{obtain, reached};
 ghost use Rattle.paper.specs.Schemas.{schemaOf};
 ghost use Rattle.paper.specs.Values.{meaningOf};
 ghost use Rattle.paper.specs.Words.{isThere};
-ghost use Rattle.shred.specs.Shredded.{RowAnswered};
+ghost use Rattle.handing.specs.Handing.{RowAnswered};
 ghost use Rattle.words.specs.Boundary.{checkedWord, foundWord, documentWord, rowWord, documentHasRoom, cellWord, boxWord};
 ghost use Rattle.words.specs.BoxParts.{sideWord};
 ghost use Rattle.words.specs.CellParts.{firstWord, secondWord};

@@ -1,5 +1,2 @@
--- A document's normal form with its tables, what a room for its row comes to, and what is handed out.
-pub mod HandLaws
-pub mod NormalLaws
-pub mod RoomLaws
+-- A document normalised into scratch.
 pub mod ScratchLaws

@@ -34,8 +34,9 @@ use Rattle.paper.specs.declared.Refusal.the-variants.{TooLarge}
 use Rattle.paper.specs.declared.Refusal.{Refusal}
 use Rattle.paper.specs.declared.RowAnswer.the-variants.{Refused}
 use Rattle.paper.specs.declared.RowAnswer.{RowAnswer}
-use Rattle.shred.proofs.HandLaws.{refused-row}
-use Rattle.shred.specs.Shredded.{RowAnswered, Normalised, Scratch}
+use Rattle.handing.proofs.HandLaws.{refused-row}
+use Rattle.handing.specs.Handing.{RowAnswered, Normalised}
+use Rattle.shred.specs.Scratch.{Scratch}
 
 -- What was put in front of a buffer stands there.
 front-bytes : (before new : List ℕ) {after : List ℕ} → after ≡ putAt before 0 new → {size : ℕ} → size ≡ length new → take size after ≡ new

@@ -1,2 +1,2 @@
--- A document's row to be written into one lent buffer.
-pub mod Shredded
+-- A document to be shredded.
+pub mod Scratch

@@ -3,9 +3,6 @@
 // The document is normalised into scratch, its normal value is cut along the schema into a room, and what stands there is
 // handed out, so that the row's length is known before a byte of the caller's buffer is touched. Scratch goes by the
 // document's lengths, so that a small document does not pay for a full-size one.
-mod normal;
-mod rooms;
-
 ghost use mathlib.Core.Bool.{true};
 ghost use mathlib.Core.Option.{some};
 ghost use mathlib.Core.Path.{_≡_};
@@ -19,9 +16,10 @@ ghost use Rattle.paper.specs.Operations.{rowOutcome};
 ghost use Rattle.paper.specs.Schemas.{Schema, schemaOf};
 ghost use Rattle.paper.specs.Values.{meaningOf};
 ghost use Rattle.paper.specs.Words.{isThere};
-ghost use Rattle.shred.specs.Shredded.{RowAnswered, Scratch};
-use crate::normal::with_tables;
+ghost use Rattle.handing.specs.Handing.{RowAnswered};
+ghost use Rattle.shred.specs.Scratch.{Scratch};
 use dictionary::Names;
+use handing::with_tables;
 use paper::DocumentAnswer;
 use paper::Refusal;
 use paper::RowAnswer;

@@ -4,7 +4,7 @@ ghost use Prim.Native.Nat.{_≤_};
 ghost use lib.ListN.{length};
 ghost use Rattle.paper.specs.Limits.{mostMetadata, mostRow};
 ghost use Rattle.paper.specs.Operations.{rowOutcome};
-ghost use Rattle.shred.specs.Shredded.{RowAnswered, rowOf, Tabled, TriedAs};
+ghost use Rattle.handing.specs.Handing.{RowAnswered, rowOf, Tabled, TriedAs};
 use paper::Refusal;
 use paper::RowAnswer;
 use putting::Put;

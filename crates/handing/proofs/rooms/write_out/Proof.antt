@@ -3,9 +3,9 @@ use native.Mathlib.Omega.{arith}
 use lib.ListN.{length-take, length-drop}
 use borrow.Author.Needs.{needs}
 use Rattle.heads.proofs.TableLaws.{readings, readings-all}
-use Rattle.shred.proofs.RoomLaws.{place-ready, place-starts, place-answers, place-nowhere}
-use Rattle.shred.proofs.rooms.write_out.Statement.{statement}
-use Rattle.shred.proofs.rooms.write_out.Tie as tie
+use Rattle.handing.proofs.RoomLaws.{place-ready, place-starts, place-answers, place-nowhere}
+use Rattle.handing.proofs.rooms.write_out.Statement.{statement}
+use Rattle.handing.proofs.rooms.write_out.Tie as tie
 
 place-requires : tie.Need-place-requires
 unfolding readings

@@ -1,8 +1,8 @@
 -- `with_room`: where the lent room does not suffice nothing has been touched, so the long room answers.
 use borrow.Author.Needs.{needs}
-use Rattle.shred.proofs.RoomLaws.{value-short, tried-told, tried-large, tried-again}
-use Rattle.shred.proofs.rooms.with_room.Statement.{statement}
-use Rattle.shred.proofs.rooms.with_room.Tie as tie
+use Rattle.handing.proofs.RoomLaws.{value-short, tried-told, tried-large, tried-again}
+use Rattle.handing.proofs.rooms.with_room.Statement.{statement}
+use Rattle.handing.proofs.rooms.with_room.Tie as tie
 
 returns : tie.Need-returns
 returns c = λ ready. tried-large (c .before .before .before .before .before .before .before .before .before .before .before .write-out .ensures ready) (c .before .enum-told .given .1) (value-short ready) (search needs)

@@ -1,8 +1,8 @@
 -- `normal_names`: the offset size from the first byte, the count behind it.
 use borrow.Author.Needs.{needs}
-use Rattle.shred.proofs.NormalLaws.{first-there, count-there, names-opened}
-use Rattle.shred.proofs.normal.normal_names.Statement.{statement}
-use Rattle.shred.proofs.normal.normal_names.Tie as tie
+use Rattle.handing.proofs.NormalLaws.{first-there, count-there, names-opened}
+use Rattle.handing.proofs.normal_names.Statement.{statement}
+use Rattle.handing.proofs.normal_names.Tie as tie
 
 pub normal-names-spec : {M : Type 1} → statement M
 normal-names-spec =

@@ -2,9 +2,9 @@
 use mathlib.Core.Path.{refl}
 use native.Mathlib.Omega.{arith}
 use borrow.Author.Needs.{needs}
-use Rattle.shred.proofs.RoomLaws.{value-short, tried-told, tried-large}
-use Rattle.shred.proofs.rooms.in_long_room.Statement.{statement}
-use Rattle.shred.proofs.rooms.in_long_room.Tie as tie
+use Rattle.handing.proofs.RoomLaws.{value-short, tried-told, tried-large}
+use Rattle.handing.proofs.rooms.in_long_room.Statement.{statement}
+use Rattle.handing.proofs.rooms.in_long_room.Tie as tie
 
 write-out-requires : tie.Need-write-out-requires
 write-out-requires c κs = let pre = c .before .before .before .before .before .before .before .before .before .before .before .before .pre in (pre .0, pre .1, pre .2, omega arith)

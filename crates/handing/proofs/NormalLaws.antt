@@ -27,7 +27,7 @@ use Rattle.paper.specs.Operations.{rowOutcome}
 use Rattle.paper.specs.Schemas.{Schema, schemaOf}
 use Rattle.paper.specs.Words.{at, isThere, joined}
 use Rattle.paper.specs.declared.RowAnswer.{RowAnswer}
-use Rattle.shred.specs.Shredded.{RowAnswered, Normalised, Tabled}
+use Rattle.handing.specs.Handing.{RowAnswered, Normalised, Tabled}
 
 -- ---- what is read of metadata whose flag is set
 

@@ -4,9 +4,9 @@ use native.Mathlib.Omega.{arith}
 use lib.ListN.{length-take}
 use lib.Seq.{length-take-le}
 use borrow.Author.Needs.{needs}
-use Rattle.shred.proofs.NormalLaws.{normal-good, normal-there, normal-flag, count-within, count-few, normal-tabled, tabled-answers}
-use Rattle.shred.proofs.normal.with_tables.Statement.{statement}
-use Rattle.shred.proofs.normal.with_tables.Tie as tie
+use Rattle.handing.proofs.NormalLaws.{normal-good, normal-there, normal-flag, count-within, count-few, normal-tabled, tabled-answers}
+use Rattle.handing.proofs.with_tables.Statement.{statement}
+use Rattle.handing.proofs.with_tables.Tie as tie
 
 find-fields-requires : tie.Need-find-fields-requires
 find-fields-requires c κs =

@@ -1,8 +1,8 @@
 -- `find_fields`: where no field is named every table tells; sorted names need no index.
 use borrow.Author.Needs.{needs}
-use Rattle.shred.proofs.NormalLaws.{sorted-ordered, nothing-told}
-use Rattle.shred.proofs.normal.find_fields.Statement.{statement}
-use Rattle.shred.proofs.normal.find_fields.Tie as tie
+use Rattle.handing.proofs.NormalLaws.{sorted-ordered, nothing-told}
+use Rattle.handing.proofs.find_fields.Statement.{statement}
+use Rattle.handing.proofs.find_fields.Tie as tie
 
 pub find-fields-spec : {M : Type 1} → statement M
 find-fields-spec =

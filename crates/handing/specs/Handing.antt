@@ -3,7 +3,7 @@ use mathlib.Core.Bool.{true}
 use mathlib.Core.List.{List, _++_}
 use mathlib.Core.Option.{some}
 use mathlib.Core.Path.{_≡_}
-use Prim.Native.Nat.{ℕ, _*_, _/_, _≤_, _<_, min}
+use Prim.Native.Nat.{ℕ, _/_, _≤_, _<_}
 use lib.Dec.{leb}
 use lib.ListN.{length, getD}
 use Rattle.fields.specs.Telling.{Told}
@@ -19,8 +19,8 @@ use Rattle.paper.specs.Schemas.{Schema, schemaOf}
 use Rattle.paper.specs.Shredding.{cut, placeBytes}
 use Rattle.paper.specs.declared.Refusal.the-variants.{TooLarge}
 use Rattle.paper.specs.declared.RowAnswer.{RowAnswer}
-use Rattle.shred.specs.declared.rooms.Tried.the-variants as tried
-use Rattle.shred.specs.declared.rooms.Tried.{Tried}
+use Rattle.handing.specs.declared.rooms.Tried.the-variants as tried
+use Rattle.handing.specs.declared.rooms.Tried.{Tried}
 
 -- ---- the answer, and what stands in the buffer
 
@@ -53,15 +53,6 @@ pub record Tabled (ranks schema table metadata value : List ℕ) : Type 0 where
   pub tabled : length schema / 9 ≤ length table
   pub ranked : length (namesUsed (normal .d)) ≤ length ranks
   pub own : (id : ℕ) → id < length (namesUsed (normal .d)) → getD ranks id 0 ≡ id
-
--- Scratch for metadata and a value of some lengths: room for their normal forms, and tables and a room of lengths that go with it.
-pub record Scratch (metadata value normalMetadata normalValue ranks notes ids room : ℕ) : Type 0 where
-  pub metadata-room : metadata ≤ normalMetadata
-  pub value-room : min (2 * value) mostValue ≤ normalValue
-  pub ranks-room : normalMetadata ≤ ranks
-  pub notes-room : normalValue ≤ notes
-  pub ids-room : normalValue ≤ ids
-  pub room-short : room ≤ mostRow
 
 -- ---- what came of a room: the row is answered, or the room is too short for its outermost place, and the buffer is as it was
 

@@ -18,7 +18,7 @@ use Rattle.paper.specs.Shredding.{cut, placeBytes, rowBytes}
 use Rattle.paper.specs.declared.Refusal.the-variants.{TooLarge}
 use Rattle.paper.specs.declared.Refusal.{Refusal}
 use Rattle.paper.specs.declared.RowAnswer.the-variants.{Done, Short, Refused}
-use Rattle.shred.specs.Shredded.{RowAnswered, rowOf}
+use Rattle.handing.specs.Handing.{RowAnswered, rowOf}
 
 -- What is refused leaves the buffer as it was.
 pub refused-row : {outcome : Outcome (List ℕ)} {refusal : Refusal} → outcome ≡ refused refusal → (row : List ℕ) → RowAnswered outcome row row (Refused refusal)

@@ -1,9 +1,9 @@
 -- `hand_out`: too large, no room, or written in four parts.
 use mathlib.Core.Path.{refl}
 use borrow.Author.Needs.{needs}
-use Rattle.shred.proofs.HandLaws.{hand-large, hand-short, hand-done}
-use Rattle.shred.proofs.rooms.hand_out.Statement.{statement}
-use Rattle.shred.proofs.rooms.hand_out.Tie as tie
+use Rattle.handing.proofs.HandLaws.{hand-large, hand-short, hand-done}
+use Rattle.handing.proofs.rooms.hand_out.Statement.{statement}
+use Rattle.handing.proofs.rooms.hand_out.Tie as tie
 
 pub hand-out-spec : {M : Type 1} → statement M
 hand-out-spec =

@@ -1,4 +1,9 @@
-// A document in its normal form: what is read of its metadata, and the tables for the cutting.
+// A document's row, from its normal form: its tables are filled, its value is cut along a good schema into a room, and what
+// stands there is handed out behind the metadata, so that the row's length is known before a byte of the buffer is touched.
+//
+// The functions with a `requires` are inner ones: whoever calls them has written the normal form and had the schema judged.
+mod rooms;
+
 ghost use mathlib.Core.Bool.{true};
 ghost use mathlib.Core.Option.{some};
 ghost use mathlib.Core.Path.{_≡_};
@@ -12,7 +17,7 @@ ghost use Rattle.paper.specs.Metadata.{flagSet, dictionaryOf, namesIn};
 ghost use Rattle.paper.specs.Operations.{rowOutcome};
 ghost use Rattle.paper.specs.Schemas.{Schema, schemaOf};
 ghost use Rattle.paper.specs.Words.{at, isThere};
-ghost use Rattle.shred.specs.Shredded.{RowAnswered, Normalised};
+ghost use Rattle.handing.specs.Handing.{RowAnswered, Normalised};
 use crate::rooms::with_room;
 use dictionary::Names;
 use paper::RowAnswer;

@@ -22,11 +22,11 @@ use Rattle.putting.specs.Put.{PutAs}
 use Rattle.putting.specs.declared.Put.the-variants.{At, Full}
 use Rattle.putting.specs.declared.Put.{Put}
 use Rattle.schemas.proofs.StandingLaws.{schema-stands}
-use Rattle.shred.proofs.HandLaws.{refused-row, row-outcome, place-large}
-use Rattle.shred.proofs.NormalLaws.{normal-few}
-use Rattle.shred.specs.Shredded.{RowAnswered, rowOf, Tabled, TriedAs, told, noRoom}
-use Rattle.shred.specs.declared.rooms.Tried.the-variants.{Told, NoRoom}
-use Rattle.shred.specs.declared.rooms.Tried.{Tried}
+use Rattle.handing.proofs.HandLaws.{refused-row, row-outcome, place-large}
+use Rattle.handing.proofs.NormalLaws.{normal-few}
+use Rattle.handing.specs.Handing.{RowAnswered, rowOf, Tabled, TriedAs, told, noRoom}
+use Rattle.handing.specs.declared.rooms.Tried.the-variants.{Told, NoRoom}
+use Rattle.handing.specs.declared.rooms.Tried.{Tried}
 
 -- ---- what was put
 
