@@ -1,0 +1,90 @@
+// A document that is one cell or a null alone, written in its normal form. It uses no names, and its length is known before it
+// is written: so it goes straight into the lent buffers.
+ghost use mathlib.Core.Bool.{true};
+ghost use mathlib.Core.Option.{some};
+ghost use mathlib.Core.Path.{_≡_};
+ghost use Prim.Native.Nat.{_≤_};
+ghost use lib.ListN.{length};
+ghost use Rattle.normalise.specs.Answered.{Answered};
+ghost use Rattle.paper.specs.Bounds.{mostWalked};
+ghost use Rattle.paper.specs.Cells.{cellMeaning};
+ghost use Rattle.paper.specs.Meaning.{Scalar, scalar, null};
+ghost use Rattle.paper.specs.Operations.{written};
+ghost use Rattle.paper.specs.Schemas.{columnCode};
+ghost use Rattle.paper.specs.Words.{isThere};
+ghost use Rattle.rebuilt.specs.Rebuilt.{cellValue};
+use paper::DocumentAnswer;
+use paper::Refusal;
+
+// How long a cell is as a value.
+fn cell_size(code: u8, s: &[u8]) -> usize
+    requires { ⌜ length (now s) ≤ mostWalked ⌝ }
+    ensures { λ r. ⌜ r ≡ length (cellValue code (now (s .entry))) ⌝ }
+{
+    if code == 1 {
+        return 1;
+    }
+    if code == 16 {
+        if s.len() <= 63 {
+            return 1 + s.len();
+        }
+        return 5 + s.len();
+    }
+    if code == 15 {
+        return 5 + s.len();
+    }
+    1 + s.len()
+}
+
+// Writes a good cell. Metadata without names is the three bytes 11 00 00, which as a number are 17.
+pub fn cell(code: u8, s: &[u8], metadata_out: &mut [u8], value_out: &mut [u8]) -> DocumentAnswer
+    requires { ⌜ (columnCode code ≡ true) × (isThere (cellMeaning (record { code = code }) (now s)) ≡ true) × (length (now s) ≤ mostWalked) ⌝ }
+    ensures { λ r. ⌜ ((value : Scalar) → cellMeaning (record { code = code }) (now (s .entry)) ≡ some value → Answered (written (scalar value)) (now («metadata_out» .entry)) (now («metadata_out» .exit)) (now («value_out» .entry)) (now («value_out» .exit)) r) ⌝ }
+{
+    let size = cell_size(code, s);
+    if paper::MOST_VALUE < size {
+        return DocumentAnswer::Refused(Refusal::TooLarge);
+    }
+    if metadata_out.len() < 3 {
+        return DocumentAnswer::Short {
+            metadata: 3,
+            value: size,
+        };
+    }
+    if value_out.len() < size {
+        return DocumentAnswer::Short {
+            metadata: 3,
+            value: size,
+        };
+    }
+    numbers::write(metadata_out, 0, 3, 17);
+    putting::cell(code, s, &mut value_out[0..size], 0, size);
+    DocumentAnswer::Done {
+        metadata: 3,
+        value: size,
+    }
+}
+
+// Writes a null: the value 00.
+pub fn null(metadata_out: &mut [u8], value_out: &mut [u8]) -> DocumentAnswer
+    ensures { λ r. ⌜ Answered (written null) (now («metadata_out» .entry)) (now («metadata_out» .exit)) (now («value_out» .entry)) (now («value_out» .exit)) r ⌝ }
+{
+    if metadata_out.len() < 3 {
+        return DocumentAnswer::Short {
+            metadata: 3,
+            value: 1,
+        };
+    }
+    if value_out.len() < 1 {
+        return DocumentAnswer::Short {
+            metadata: 3,
+            value: 1,
+        };
+    }
+    numbers::write(metadata_out, 0, 3, 17);
+    numbers::write(value_out, 0, 1, 0);
+    DocumentAnswer::Done {
+        metadata: 3,
+        value: 1,
+    }
+}
