@@ -1,32 +1,30 @@
 -- A cell alone: how long it is as a value, what is written of it, and what is answered.
 use mathlib.Core.Bool.{true}
-use mathlib.Core.List.{List, [], _∷_, _++_, append-nil}
+use mathlib.Core.List.{List, [], _∷_, _++_}
 use mathlib.Core.Option.{some}
-use mathlib.Core.Path.{_≡_, refl, sym, ap, _∙_}
-use Prim.Native.Nat.{ℕ, _+_, _-_, _*_, _≤_, _<_}
+use mathlib.Core.Path.{_≡_, refl, sym, ap, subst, _∙_}
+use Prim.Native.Nat.{ℕ, _+_, _*_, _%_, _≤_, _<_}
 use native.Mathlib.Omega.{arith}
 use borrow.Author.Tests.{eq-eqb, ne-eqb, le-leb, lt-leb}
-use borrow.Rule.Slice.PartMut.{putMid}
-use lib.ListN.{length, take, drop, length-append, length-take, length-drop, drop-of-length-le}
-use lib.Seq.{drop-drop}
+use lib.ListN.{length, length-append}
+use Rattle.cells.proofs.CodeLaws.{code-most}
 use Rattle.normalise.proofs.AnswerLaws.{answer-large, answer-metadata-short, answer-value-short, answer-done}
 use Rattle.normalise.specs.Answered.{Answered}
 use Rattle.numbers.proofs.NumberLaws.{length-number-bytes}
+use Rattle.numbers.proofs.PutLaws.{put-run}
 use Rattle.numbers.specs.Little.{putAt, numberBytes, smallestWidth, widthWithin}
 use Rattle.paper.specs.Cells.{cellMeaning}
 use Rattle.paper.specs.Limits.{mostValue}
 use Rattle.paper.specs.Meaning.{Scalar, Doc, scalar, null}
 use Rattle.paper.specs.Normal.{addNames, namesUsed, numbersBytes, offsetsFrom, metadataWidth, metadataBytes, textBytes, prefixedBytes, valueBytes, normalForm}
 use Rattle.paper.specs.Operations.{written}
+use Rattle.paper.specs.Schemas.{columnCode}
 use Rattle.paper.specs.Words.{at, joined}
 use Rattle.paper.specs.declared.DocumentAnswer.the-variants.{Done, Short, Refused}
 use Rattle.paper.specs.declared.DocumentAnswer.{DocumentAnswer}
 use Rattle.paper.specs.declared.Refusal.the-variants.{TooLarge}
-use Rattle.putting.specs.Put.{PutAs, put, full}
-use Rattle.putting.specs.declared.Put.{Put}
 use Rattle.rebuilt.proofs.CellLaws.{cell-is}
 use Rattle.rebuilt.specs.Rebuilt.{cellValue}
-use Rattle.writing.specs.Ends.{EndsAt}
 
 -- ---- how long a cell is as a value
 
@@ -57,20 +55,81 @@ module _ (code : ℕ) (s : List ℕ) where
       unfolding cellValue
       plain-size no-binary = rw (ne-eqb code 1 no-boolean, ne-eqb code 16 no-text, ne-eqb code 15 no-binary) (omega arith)
 
--- ---- what is written: all of the lent part is new
+-- Where the value has room, so have its parts.
+module _ (code : ℕ) (s : List ℕ) {room : ℕ} (fits : length (cellValue code s) ≤ room) where
+  pub boolean-fits : code ≡ 1 → 0 + 1 ≤ room
+  boolean-fits e = let size = boolean-size code s e in omega arith
 
-put-all : (bytes before : List ℕ) (size : ℕ) → size ≡ length bytes → size ≤ length before → {after : List ℕ} {r : Put}
-    → PutAs bytes (take (size - 0) (drop 0 before)) after 0 size r → putMid 0 (size - 0) before after ≡ putAt before 0 bytes
-unfolding putAt
-put-all bytes before size is fits (put start above ends) =
-    let long = ends .size in
-    let first : start ≡ 0 = omega arith in
-    let lent : List ℕ = take (size - 0) (drop 0 before) in
-    let none : drop size lent ≡ [] = drop-of-length-le lent {i = size} (rw length-take (omega arith)) in
-    let all : _ ≡ bytes = ends .bytes ∙ rw (first, none, append-nil) in
-    let same : 0 + (length bytes - 0) ≡ 0 + length bytes = omega arith in
-    rw (all, is, drop-drop, same)
-put-all bytes before size is fits (full short) = absurd (omega arith)
+  module _ (no-boolean : code ≡ 1 → ⊥) where
+    pub short-fits : code ≡ 16 → length s ≤ 63 → 1 + length s ≤ room
+    short-fits e few = let size = short-size code s no-boolean e few in omega arith
+
+    pub long-fits : code ≡ 16 → 63 < length s → 5 + length s ≤ room
+    long-fits e many = let size = long-size code s no-boolean e many in omega arith
+
+    module _ (no-text : code ≡ 16 → ⊥) where
+      pub binary-fits : code ≡ 15 → 5 + length s ≤ room
+      binary-fits e = let size = binary-size code s no-boolean no-text e in omega arith
+
+      pub plain-fits : (code ≡ 15 → ⊥) → 1 + length s ≤ room
+      plain-fits no-binary = let size = plain-size code s no-boolean no-text no-binary in omega arith
+
+-- ---- what is written: one run behind another
+
+one-byte : (byte : ℕ) → byte < 256 → numberBytes 1 byte ≡ byte ∷ []
+unfolding numberBytes
+one-byte byte small = let same : byte % 256 ≡ byte = omega arith in rw same
+
+pub put-headed : (first : ℕ) (s before : List ℕ) {middle after : List ℕ} → first < 256 → 1 + length s ≤ length before
+    → middle ≡ putAt before 0 (numberBytes 1 first) → after ≡ putAt middle 1 s → after ≡ putAt before 0 (first ∷ s)
+put-headed first s before small room head body =
+    let one : putAt before 0 (numberBytes 1 first) ≡ putAt before 0 (first ∷ []) = ap (putAt before 0) (one-byte first small) in
+    body ∙ rw (head, one) (put-run before 0 (first ∷ []) s (omega arith))
+
+pub put-prefixed : (code : ℕ) (s before : List ℕ) {headed counted after : List ℕ} → code < 64 → 5 + length s ≤ length before
+    → headed ≡ putAt before 0 (numberBytes 1 (4 * code)) → counted ≡ putAt headed 1 (numberBytes 4 (length s)) → after ≡ putAt counted 5 s
+    → after ≡ putAt before 0 (prefixedBytes code s)
+unfolding prefixedBytes
+put-prefixed code s before small room head count body =
+    let one : putAt before 0 (numberBytes 1 (4 * code)) ≡ putAt before 0 ((4 * code) ∷ []) = ap (putAt before 0) (one-byte (4 * code) (omega arith)) in
+    let size : length (numberBytes 4 (length s)) ≡ 4 = length-number-bytes 4 (length s) in
+    let two : putAt (putAt before 0 ((4 * code) ∷ [])) 1 (numberBytes 4 (length s)) ≡ putAt before 0 ((4 * code) ∷ numberBytes 4 (length s)) =
+    put-run before 0 ((4 * code) ∷ []) (numberBytes 4 (length s)) (omega arith) in
+    let five : 0 + length ((4 * code) ∷ numberBytes 4 (length s)) ≡ 5 = omega arith in
+    let three : putAt (putAt before 0 ((4 * code) ∷ numberBytes 4 (length s))) 5 s ≡ putAt before 0 ((4 * code) ∷ numberBytes 4 (length s) ++ s) =
+    subst (λ (k : ℕ). putAt (putAt before 0 ((4 * code) ∷ numberBytes 4 (length s))) k s ≡ putAt before 0 ((4 * code) ∷ numberBytes 4 (length s) ++ s)) five
+    (put-run before 0 ((4 * code) ∷ numberBytes 4 (length s)) s (omega arith)) in
+    body ∙ rw (count, head, one, two) three
+
+pub first-small : (code wide : ℕ) → columnCode code ≡ true → wide ≡ code → 4 * wide < 256
+first-small code wide known is = let most = code-most code known in omega arith
+
+module _ (code : ℕ) (s : List ℕ) (before : List ℕ) {after : List ℕ} where
+  pub wrote-true : code ≡ 1 → at s 0 ≡ 1 → after ≡ putAt before 0 (numberBytes 1 4) → after ≡ putAt before 0 (cellValue code s)
+  unfolding cellValue
+  wrote-true e one done = rw (eq-eqb code 1 e, eq-eqb (at s 0) 1 one) (done ∙ ap (putAt before 0) (one-byte 4 (omega arith)))
+
+  pub wrote-false : code ≡ 1 → (at s 0 ≡ 1 → ⊥) → after ≡ putAt before 0 (numberBytes 1 8) → after ≡ putAt before 0 (cellValue code s)
+  unfolding cellValue
+  wrote-false e other done = rw (eq-eqb code 1 e, ne-eqb (at s 0) 1 other) (done ∙ ap (putAt before 0) (one-byte 8 (omega arith)))
+
+  module _ (no-boolean : code ≡ 1 → ⊥) where
+    pub wrote-short : code ≡ 16 → length s ≤ 63 → after ≡ putAt before 0 ((4 * length s + 1) ∷ s) → after ≡ putAt before 0 (cellValue code s)
+    unfolding cellValue textBytes
+    wrote-short e few done = rw (ne-eqb code 1 no-boolean, eq-eqb code 16 e, le-leb (length s) 63 few) done
+
+    pub wrote-long : code ≡ 16 → 63 < length s → after ≡ putAt before 0 (prefixedBytes 16 s) → after ≡ putAt before 0 (cellValue code s)
+    unfolding cellValue textBytes
+    wrote-long e many done = rw (ne-eqb code 1 no-boolean, eq-eqb code 16 e, lt-leb (length s) 63 many) done
+
+    module _ (no-text : code ≡ 16 → ⊥) where
+      pub wrote-binary : code ≡ 15 → after ≡ putAt before 0 (prefixedBytes 15 s) → after ≡ putAt before 0 (cellValue code s)
+      unfolding cellValue
+      wrote-binary e done = rw (ne-eqb code 1 no-boolean, ne-eqb code 16 no-text, eq-eqb code 15 e) done
+
+      pub wrote-plain : (code ≡ 15 → ⊥) → (wide : ℕ) → wide ≡ code → after ≡ putAt before 0 ((4 * wide) ∷ s) → after ≡ putAt before 0 (cellValue code s)
+      unfolding cellValue
+      wrote-plain no-binary wide is done = rw (ne-eqb code 1 no-boolean, ne-eqb code 16 no-text, ne-eqb code 15 no-binary, ← is) done
 
 -- ---- metadata without names
 
@@ -127,13 +186,12 @@ module _ (code : ℕ) (s : List ℕ) (size : ℕ) (long : size ≡ length (cellV
   cell-value-short fits h value means =
       lone-value-short (scalar value) (cell-names value) _ (cell-value value means) size long first second fits h
 
-  pub cell-done : size ≤ mostValue → 3 ≤ length first → size ≤ length second → {first′ after : List ℕ} {r : Put}
-      → first′ ≡ putAt first 0 (numberBytes 3 17) → PutAs (cellValue code s) (take (size - 0) (drop 0 second)) after 0 size r
+  pub cell-done : size ≤ mostValue → 3 ≤ length first → size ≤ length second → {first′ second′ : List ℕ}
+      → first′ ≡ putAt first 0 (numberBytes 3 17) → second′ ≡ putAt second 0 (cellValue code s)
       → (value : Scalar) → cellMeaning (record { code = code }) s ≡ some value
-      → Answered (written (scalar value)) first first′ second (putMid 0 (size - 0) second after) (Done 3 size)
-  cell-done fits room room′ named done value means =
-      lone-done (scalar value) (cell-names value) _ (cell-value value means) size long first second fits room room′ named
-      (put-all (cellValue code s) second size long room′ done)
+      → Answered (written (scalar value)) first first′ second second′ (Done 3 size)
+  cell-done fits room room′ named valued value means =
+      lone-done (scalar value) (cell-names value) _ (cell-value value means) size long first second fits room room′ named valued
 
 -- ---- of a null
 
