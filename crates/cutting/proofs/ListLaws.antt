@@ -88,7 +88,7 @@ behind-long names element (doc d ds) (suc k) =
 
 -- ---- a value that is no array is left over
 
-no-list : (element : Schema) (d : Doc) → ((ds : Docs) → d ≡ array ds → ⊥) → cut (list element) d ≡ leftover d
+pub no-list : (element : Schema) (d : Doc) → ((ds : Docs) → d ≡ array ds → ⊥) → cut (list element) d ≡ leftover d
 unfolding cut
 no-list element null other = refl
 no-list element (scalar a) other = refl

@@ -40,7 +40,7 @@ use Rattle.cutting.specs.Cutting.{Valued, ObjectReady, objectCut, Fields
 use Rattle.cutting.proofs.NodeLaws.{put-left}
 
 -- A value that is no object is left over.
-no-fields : (columns : SchemaFields) (d : Doc) → ((fs : Fields) → d ≡ object fs → ⊥) → cut (fields columns) d ≡ leftover d
+pub no-fields : (columns : SchemaFields) (d : Doc) → ((fs : Fields) → d ≡ object fs → ⊥) → cut (fields columns) d ≡ leftover d
 unfolding cut
 no-fields columns null other = refl
 no-fields columns (scalar a) other = refl

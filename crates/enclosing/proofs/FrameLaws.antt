@@ -98,10 +98,15 @@ place-split tag body =
     ∙ ap (λ (s : List ℕ). frameHead 0x50 (3 + length body) ++ s) (frame-split tag body)
     ∙ sym (append-assoc (frameHead 0x50 (3 + length body)) (frameHead tag (length body)) body)
 
-pub place-long : (tag : ℕ) (body : List ℕ) → length body ≤ length (placeOf tag body)
-place-long tag body =
-    let long = ap length (place-split tag body) ∙ length-append (frameHead 0x50 (3 + length body) ++ frameHead tag (length body)) body in
+pub place-size : (tag : ℕ) (body : List ℕ) → length (placeOf tag body) ≡ 6 + length body
+unfolding placeOf
+place-size tag body =
+    let outer = frame-length 0x50 (frame tag body) in
+    let inner = frame-length tag body in
     omega arith
+
+pub place-long : (tag : ℕ) (body : List ℕ) → length body ≤ length (placeOf tag body)
+place-long tag body = let size = place-size tag body in omega arith
 
 module _ (tag : ℕ) (body : List ℕ) {before : List ℕ} {end : ℕ} where
   pub place-full : {after : List ℕ} → end < length body → PutAs (placeOf tag body) before after 0 end Full

@@ -2,3 +2,4 @@
 pub mod HandLaws
 pub mod NormalLaws
 pub mod RoomLaws
+pub mod AloneLaws

@@ -1,6 +1,6 @@
 -- A document's row to be written into one lent buffer: the answer, every byte of the buffer, and what the writing stands on.
 use mathlib.Core.Bool.{true}
-use mathlib.Core.List.{List, _++_}
+use mathlib.Core.List.{List, [], _∷_, _++_}
 use mathlib.Core.Option.{some}
 use mathlib.Core.Path.{_≡_}
 use Prim.Native.Nat.{ℕ, _/_, _≤_, _<_}
@@ -11,7 +11,7 @@ use Rattle.forms.specs.WellFormed.{wellFormed}
 use Rattle.numbers.specs.Little.{putAt}
 use Rattle.paper.specs.Framing.{frame}
 use Rattle.paper.specs.Limits.{mostLevels, mostMetadata, mostRow, mostSchema, mostValue}
-use Rattle.paper.specs.Meaning.{Doc}
+use Rattle.paper.specs.Meaning.{Doc, array, object, Docs, Fields}
 use Rattle.paper.specs.Normal.{namesUsed, metadataBytes, valueBytes}
 use Rattle.paper.specs.Operations.{rowOutcome, rowAnswer, rowWritten}
 use Rattle.paper.specs.Refusals.{Outcome, reached, require}
@@ -59,3 +59,15 @@ pub record Tabled (ranks schema table metadata value : List ℕ) : Type 0 where
 pub data TriedAs (node : Schema) (d : Doc) (before after : List ℕ) (room : ℕ) : Tried → Type 0 where
   told : (answer : RowAnswer) → RowAnswered (rowOutcome node d) before after answer → TriedAs node d before after room (tried.Told answer)
   noRoom : room < length (placeBytes (namesUsed d) (cut node d)) → after ≡ before → TriedAs node d before after room tried.NoRoom
+
+-- ---- a scalar alone
+
+-- Metadata without names.
+abbrev pub noNames : List ℕ
+noNames = 0x11 ∷ 0x00 ∷ 0x00 ∷ []
+
+-- A document in its normal form that is no array and no object.
+pub record Alone (schema value : List ℕ) : Type 0 where
+  pub normal : Normalised schema noNames value
+  pub no-array : (ds : Docs) → normal .d ≡ array ds → ⊥
+  pub no-object : (fs : Fields) → normal .d ≡ object fs → ⊥

@@ -3,6 +3,9 @@
 //
 // The functions with a `requires` are inner ones: whoever calls them has written the normal form and had the schema judged.
 mod rooms;
+mod scalar;
+
+pub use scalar::alone;
 
 ghost use mathlib.Core.Bool.{true};
 ghost use mathlib.Core.Option.{some};

@@ -16,7 +16,7 @@ enum Tried {
 }
 
 // Hands out a row, by its metadata and its outermost place, if it is not too long and the buffer has room.
-fn hand_out(metadata: &[u8], place: &[u8], row: &mut [u8]) -> RowAnswer
+pub fn hand_out(metadata: &[u8], place: &[u8], row: &mut [u8]) -> RowAnswer
     requires { ⌜ (length (now metadata) ≤ mostMetadata) × (length (now place) ≤ mostRow) ⌝ }
     ensures { λ r. ⌜ RowAnswered (rowOf (now (metadata .entry)) (now (place .entry))) (now (row .entry)) (now (row .exit)) r ⌝ }
 {
