@@ -126,17 +126,21 @@ fn into_buffers(
     );
 }
 
-// A document shredded into a buffer, whose length is given in one byte: the length written or needed, and whether the buffer now
-// holds what is given.
-fn shred(schema: &[u8], metadata: &[u8], value: &[u8], rooms: &[u8], given: &[u8]) {
-    let mut row_out = [0u8; 256];
-    let size = reading::room(rooms, 0, &row_out);
-    let answer = register::shred(schema, metadata, value, &mut row_out[..size]);
+// A document shredded into a buffer: the length written or needed, and whether the buffer now holds what is given.
+fn shredded(schema: &[u8], metadata: &[u8], value: &[u8], row_out: &mut [u8], given: &[u8]) {
+    let answer = register::shred(schema, metadata, value, row_out);
     match answer {
-        RowAnswer::Done(length) => written(b": row ", length, &row_out[..size], given),
+        RowAnswer::Done(length) => written(b": row ", length, row_out, given),
         RowAnswer::Short(length) => saying::number(b": 9, the row needs ", length as u64),
         RowAnswer::Refused(refusal) => saying::refused(refusal),
     }
+}
+
+// Lays out the buffer, whose length is given in one byte.
+fn shred(schema: &[u8], metadata: &[u8], value: &[u8], rooms: &[u8], given: &[u8]) {
+    let mut row_out = [0u8; 256];
+    let size = reading::room(rooms, 0, &row_out);
+    shredded(schema, metadata, value, &mut row_out[..size], given);
 }
 
 // A value of a fixed size, by its type and payload.

@@ -1,5 +1,4 @@
 // What is said of an answer.
-ghost use Prim.Native.Nat.{_<_};
 use libc::STDOUT_FILENO;
 use paper::Cell;
 use paper::Refusal;
@@ -36,21 +35,20 @@ pub fn refused(refusal: Refusal) {
     words(refusal);
 }
 
-// Four bits as a hex digit.
-fn digit(n: u8) -> u8
-    requires { ⌜ n < 16 ⌝ }
-{
-    if n < 10 {
-        return b'0' + n;
+// The low four bits as a hex digit.
+fn digit(n: u8) -> u8 {
+    let low = n % 16;
+    if low < 10 {
+        return b'0' + low;
     }
-    b'a' + (n - 10)
+    b'a' + (low - 10)
 }
 
 // Bytes in hex, a space before each.
 pub fn bytes(s: &[u8]) {
     let mut i = 0;
     while i < s.len() {
-        say(&[b' ', digit(s[i] / 16), digit(s[i] % 16)]);
+        say(&[b' ', digit(s[i] / 16), digit(s[i])]);
         i += 1;
     }
 }

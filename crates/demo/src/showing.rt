@@ -1,14 +1,13 @@
 // A row shown field by field, as its frames have it. What does not fit is shown as far as it goes: the register judges, not this.
 ghost use Prim.Native.Nat.{_<_, _≤_};
 ghost use lib.ListN.{length};
-ghost use Rattle.io.specs.Counts.{Counts};
 use crate::saying;
 use paper::CellAnswer;
 
 // Where the frame at a place ends: behind its tag, its two-byte length and that many bytes, or where the bytes end.
 pub fn frame_end(s: &[u8], at: usize) -> usize
     requires { ⌜ at ≤ length (now s) ⌝ }
-    ensures { λ r. ⌜ (at ≤ r) × Counts r (now (s .entry)) × (at < length (now (s .entry)) → at < r) ⌝ }
+    ensures { λ r. ⌜ (at ≤ r) × (r ≤ length (now (s .entry))) ⌝ }
 {
     if s.len() - at < 3 {
         return s.len();
@@ -19,6 +18,18 @@ pub fn frame_end(s: &[u8], at: usize) -> usize
         return s.len();
     }
     body + size
+}
+
+// Where the next frame starts.
+fn next_frame(s: &[u8], at: usize) -> usize
+    requires { ⌜ at < length (now s) ⌝ }
+    ensures { λ r. ⌜ (at < r) × (r ≤ length (now (s .entry))) ⌝ }
+{
+    let end = frame_end(s, at);
+    if at < end {
+        return end;
+    }
+    s.len()
 }
 
 // The body of the frame at a place.
@@ -85,7 +96,7 @@ fn fields(columns: &[u8], places: &[u8]) {
         saying::say(b"\n    ");
         saying::say(body(column, 0));
         place(&column[node..], body(places, at));
-        field = frame_end(columns, field);
+        field = next_frame(columns, field);
         at = frame_end(places, at);
     }
 }
@@ -100,11 +111,11 @@ pub fn row(schema: &[u8], bytes: &[u8]) {
         saying::say(b"\n    the place");
         return place(schema, outermost);
     }
-    let mut at = 0;
     if begins(outermost, 0x41) {
         saying::say(b"\n    left over");
         saying::bytes(body(outermost, 0));
-        at = frame_end(outermost, 0);
+        let at = frame_end(outermost, 0);
+        return fields(body(schema, 0), body(outermost, at));
     }
-    fields(body(schema, 0), body(outermost, at));
+    fields(body(schema, 0), body(outermost, 0));
 }
