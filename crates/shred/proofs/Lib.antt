@@ -1,2 +1,3 @@
 -- A document normalised into scratch.
 pub mod ScratchLaws
+pub mod AloneLaws

@@ -1,2 +1,3 @@
 -- A document to be shredded.
 pub mod Scratch
+pub mod Alone

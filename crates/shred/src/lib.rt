@@ -3,6 +3,8 @@
 // The document is normalised into scratch, its normal value is cut along the schema into a room, and what stands there is
 // handed out, so that the row's length is known before a byte of the caller's buffer is touched. Scratch goes by the
 // document's lengths, so that a small document does not pay for a full-size one.
+mod single;
+
 ghost use mathlib.Core.Bool.{true};
 ghost use mathlib.Core.Option.{some};
 ghost use mathlib.Core.Path.{_≡_};
