@@ -1,5 +1,5 @@
 -- What is answered of a row to be written, test by test: 8, 9, or done.
-use mathlib.Core.List.{List, [], _++_}
+use mathlib.Core.List.{List, _++_}
 use mathlib.Core.Path.{_≡_, refl, sym, ap, _∙_}
 use Prim.Native.Nat.{ℕ, _+_, _≤_, _<_}
 use native.Mathlib.Omega.{arith}
@@ -18,7 +18,7 @@ use Rattle.paper.specs.Shredding.{cut, placeBytes, rowBytes}
 use Rattle.paper.specs.declared.Refusal.the-variants.{TooLarge}
 use Rattle.paper.specs.declared.Refusal.{Refusal}
 use Rattle.paper.specs.declared.RowAnswer.the-variants.{Done, Short, Refused}
-use Rattle.handing.specs.Handing.{RowAnswered, rowOf}
+use Rattle.handing.specs.Handing.{RowAnswered, rowFrom}
 
 -- What is refused leaves the buffer as it was.
 pub refused-row : {outcome : Outcome (List ℕ)} {refusal : Refusal} → outcome ≡ refused refusal → (row : List ℕ) → RowAnswered outcome row row (Refused refusal)
@@ -38,16 +38,16 @@ module _ (metadata place : List ℕ) (size : ℕ) (told : size ≡ 3 + length me
   abbrev Count : List ℕ
   Count = numberBytes 2 (length metadata)
 
-  pub hand-large : mostRow < size → (row : List ℕ) → RowAnswered (rowOf metadata place) row row (Refused TooLarge)
-  unfolding rowOf require
+  pub hand-large : mostRow < size → (row : List ℕ) → RowAnswered (rowFrom metadata place) row row (Refused TooLarge)
+  unfolding rowFrom require
   hand-large h = refused-row (rw (row-size, lt-leb size mostRow h))
 
   module _ (fits : size ≤ mostRow) (row : List ℕ) where
-    fitting : rowOf metadata place ≡ reached (frame 0x40 metadata ++ place)
-    unfolding rowOf require
+    fitting : rowFrom metadata place ≡ reached (frame 0x40 metadata ++ place)
+    unfolding rowFrom require
     fitting = rw (row-size, le-leb size mostRow fits)
 
-    pub hand-short : length row < size → RowAnswered (rowOf metadata place) row row (Short size)
+    pub hand-short : length row < size → RowAnswered (rowFrom metadata place) row row (Short size)
     unfolding rowAnswer rowWritten
     hand-short h =
         rw fitting
@@ -73,7 +73,7 @@ module _ (metadata place : List ℕ) (size : ℕ) (told : size ≡ 3 + length me
           let middle : 3 + length metadata ≡ 0 + length ((Tag ++ Count) ++ metadata) = omega arith in
           last ∙ rw (middle, first-half) (put-run row 0 ((Tag ++ Count) ++ metadata) place (omega arith))
 
-      pub hand-done : RowAnswered (rowOf metadata place) row after (Done size)
+      pub hand-done : RowAnswered (rowFrom metadata place) row after (Done size)
       unfolding rowAnswer rowWritten
       hand-done =
           rw fitting
@@ -85,14 +85,14 @@ module _ (metadata place : List ℕ) (size : ℕ) (told : size ≡ 3 + length me
 -- ---- the row of a document whose normal form may be written
 
 pub row-outcome : (node : Schema) (d : Doc) → length (valueBytes (namesUsed d) d) ≤ mostValue
-    → rowOf (metadataBytes (namesUsed d)) (placeBytes (namesUsed d) (cut node d)) ≡ rowOutcome node d
-unfolding rowOf rowOutcome writable normalForm rowBytes
+    → rowFrom (metadataBytes (namesUsed d)) (placeBytes (namesUsed d) (cut node d)) ≡ rowOutcome node d
+unfolding rowFrom rowOutcome writable normalForm rowBytes
 row-outcome node d short = rw (le-leb (length (valueBytes (namesUsed d) d)) mostValue short)
 
 -- A place that is longer than a row may be makes a row that is.
 pub place-large : (node : Schema) (d : Doc) → length (valueBytes (namesUsed d) d) ≤ mostValue → mostRow < length (placeBytes (namesUsed d) (cut node d))
     → rowOutcome node d ≡ refused TooLarge
-unfolding rowOf require
+unfolding rowFrom require
 place-large node d short long =
     let place : List ℕ = placeBytes (namesUsed d) (cut node d) in
     let metadata : List ℕ = metadataBytes (namesUsed d) in

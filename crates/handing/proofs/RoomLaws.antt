@@ -1,6 +1,6 @@
 -- The room for a row's outermost place: what the cutting asks, and what is answered of what was put there.
 use mathlib.Core.List.{List}
-use mathlib.Core.Path.{_≡_, refl, ap, subst, sym, _∙_}
+use mathlib.Core.Path.{_≡_, refl}
 use Prim.Native.Nat.{ℕ, _-_, _≤_, _<_}
 use native.Mathlib.Omega.{arith}
 use lib.ListN.{length, take, drop}
@@ -10,7 +10,7 @@ use Rattle.names.proofs.UsedLaws.{names-rise}
 use Rattle.normalise.proofs.NumberedLaws.{last-bytes}
 use Rattle.paper.specs.Limits.{mostLevels, mostRow, mostValue}
 use Rattle.paper.specs.Meaning.{Doc}
-use Rattle.paper.specs.Normal.{namesUsed, metadataBytes, valueBytes}
+use Rattle.paper.specs.Normal.{namesUsed, valueBytes}
 use Rattle.paper.specs.Operations.{rowOutcome}
 use Rattle.paper.specs.Schemas.{Schema}
 use Rattle.paper.specs.Shredding.{cut, placeBytes}
@@ -24,7 +24,7 @@ use Rattle.putting.specs.declared.Put.{Put}
 use Rattle.schemas.proofs.StandingLaws.{schema-stands}
 use Rattle.handing.proofs.HandLaws.{refused-row, row-outcome, place-large}
 use Rattle.handing.proofs.NormalLaws.{normal-few}
-use Rattle.handing.specs.Handing.{RowAnswered, rowOf, Tabled, TriedAs, told, noRoom}
+use Rattle.handing.specs.Handing.{RowAnswered, rowFrom, Tabled, TriedAs, told, noRoom}
 use Rattle.handing.specs.declared.rooms.Tried.the-variants.{Told, NoRoom}
 use Rattle.handing.specs.declared.rooms.Tried.{Tried}
 
@@ -84,7 +84,7 @@ module _ {ranks schema table metadata value : List ℕ} (ready : Tabled ranks sc
       place-starts e = let size = told-here placed e .1 .size in omega arith
 
       pub place-answers : {start : ℕ} → r ≡ At start → {row row′ : List ℕ} {a : RowAnswer}
-          → RowAnswered (rowOf metadata (take (length before - start) (drop start after))) row row′ a → TriedAs Under Document row row′ (length before) (Told a)
+          → RowAnswered (rowFrom metadata (take (length before - start) (drop start after))) row row′ a → TriedAs Under Document row row′ (length before) (Told a)
       place-answers e {a = a} answered =
           told a (rw (ready .normal .metadata-is, last-bytes (told-here placed e .1), row-outcome Under Document value-short) at answered)
 

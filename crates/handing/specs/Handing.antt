@@ -29,8 +29,8 @@ pub record RowAnswered (outcome : Outcome (List ℕ)) (before after : List ℕ) 
   pub row-is : after ≡ putAt before 0 (rowWritten outcome (length before))
 
 -- A row by its metadata and its outermost place, if it may be written.
-unfoldable pub rowOf : (metadata place : List ℕ) → Outcome (List ℕ)
-rowOf metadata place = require (leb (length (frame 0x40 metadata ++ place)) mostRow) TooLarge (reached (frame 0x40 metadata ++ place))
+unfoldable pub rowFrom : (metadata place : List ℕ) → Outcome (List ℕ)
+rowFrom metadata place = require (leb (length (frame 0x40 metadata ++ place)) mostRow) TooLarge (reached (frame 0x40 metadata ++ place))
 
 -- ---- what it is written from
 

@@ -1,10 +1,9 @@
 // The outermost place cut into a room, from its end towards its front, and the row handed out.
-ghost use mathlib.Core.Path.{_≡_};
 ghost use Prim.Native.Nat.{_≤_};
 ghost use lib.ListN.{length};
 ghost use Rattle.paper.specs.Limits.{mostMetadata, mostRow};
 ghost use Rattle.paper.specs.Operations.{rowOutcome};
-ghost use Rattle.handing.specs.Handing.{RowAnswered, rowOf, Tabled, TriedAs};
+ghost use Rattle.handing.specs.Handing.{RowAnswered, rowFrom, Tabled, TriedAs};
 use paper::Refusal;
 use paper::RowAnswer;
 use putting::Put;
@@ -18,7 +17,7 @@ enum Tried {
 // Hands out a row, by its metadata and its outermost place, if it is not too long and the buffer has room.
 fn hand_out(metadata: &[u8], place: &[u8], row: &mut [u8]) -> RowAnswer
     requires { ⌜ (length (now metadata) ≤ mostMetadata) × (length (now place) ≤ mostRow) ⌝ }
-    ensures { λ r. ⌜ RowAnswered (rowOf (now (metadata .entry)) (now (place .entry))) (now (row .entry)) (now (row .exit)) r ⌝ }
+    ensures { λ r. ⌜ RowAnswered (rowFrom (now (metadata .entry)) (now (place .entry))) (now (row .entry)) (now (row .exit)) r ⌝ }
 {
     let middle = 3 + metadata.len();
     let size = middle + place.len();

@@ -17,7 +17,7 @@ use Rattle.forms.proofs.NormalLaws.{require-reached, obtain-reached}
 use Rattle.paper.proofs.WordLaws.{never, and-both}
 use Rattle.paper.specs.Limits.{mostLevels, mostSchema, mostRow}
 use Rattle.paper.specs.Meaning.{Doc}
-use Rattle.paper.specs.Metadata.{Dictionary, dictionaryOf, namesIn}
+use Rattle.paper.specs.Metadata.{dictionaryOf, namesIn}
 use Rattle.paper.specs.Operations.{judged, valueJudged, documentFits, writable, rowOutcome, shredOutcome, rowAnswer}
 use Rattle.paper.specs.Refusals.{Outcome, refused, reached, require, obtain}
 use Rattle.paper.specs.Schemas.{Schema, schemaOf}

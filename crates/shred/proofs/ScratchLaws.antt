@@ -1,11 +1,11 @@
 -- A lent document normalised into scratch that has room for it: its normal form stands there, or it is too large.
-use mathlib.Core.Bool.{Bool, true, false, cond, _&&_}
+use mathlib.Core.Bool.{Bool, true, false, _&&_}
 use mathlib.Core.List.{List}
 use mathlib.Core.Option.{some}
-use mathlib.Core.Path.{_≡_, refl, sym, ap, _∙_}
+use mathlib.Core.Path.{_≡_, refl, ap, _∙_}
 use Prim.Native.Nat.{ℕ, _*_, _≤_, _<_}
 use native.Mathlib.Omega.{arith}
-use borrow.Author.Tests.{leb-true, leb-false, le-leb}
+use borrow.Author.Tests.{leb-true, le-leb}
 use lib.Dec.{leb}
 use lib.ListN.{length, getD, take}
 use lib.Seq.{take-at}
@@ -18,14 +18,13 @@ use Rattle.normalise.specs.Answered.{Answered, Lent}
 use Rattle.numbers.proofs.PutLaws.{length-put}
 use Rattle.numbers.specs.Little.{putAt}
 use Rattle.paper.proofs.WordLaws.{and-both, there-some}
-use Rattle.paper.specs.Limits.{mostLevels, mostMetadata, mostSchema, mostValue}
+use Rattle.paper.specs.Limits.{mostLevels, mostSchema, mostValue}
 use Rattle.paper.specs.Meaning.{Doc}
 use Rattle.paper.specs.Metadata.{namesIn}
 use Rattle.paper.specs.Normal.{namesUsed, metadataBytes, valueBytes, normalForm}
 use Rattle.paper.specs.Operations.{writable, written, documentRoom, documentAnswer, metadataWritten, valueWritten, rowOutcome}
 use Rattle.paper.specs.Refusals.{refused, reached, require}
 use Rattle.paper.specs.Schemas.{Schema, schemaOf}
-use Rattle.paper.specs.Shredding.{rowBytes}
 use Rattle.paper.specs.Values.{meaningOf}
 use Rattle.paper.specs.Words.{isThere}
 use Rattle.paper.specs.declared.DocumentAnswer.the-variants as document
@@ -39,107 +38,100 @@ use Rattle.handing.specs.Handing.{RowAnswered, Normalised}
 use Rattle.shred.specs.Scratch.{Scratch}
 
 -- What was put in front of a buffer stands there.
-front-bytes : (before new : List ℕ) {after : List ℕ} → after ≡ putAt before 0 new → {size : ℕ} → size ≡ length new → take size after ≡ new
+put-in-front : (before new : List ℕ) {after : List ℕ} → after ≡ putAt before 0 new → {size : ℕ} → size ≡ length new → length new ≤ length before
+    → (size ≤ length after) × (take size after ≡ new)
 unfolding putAt
-front-bytes before new is e = rw (is, e) (take-at new _ (length new) refl)
-
-front-inside : (before new : List ℕ) {after : List ℕ} → after ≡ putAt before 0 new → {size : ℕ} → size ≡ length new → length new ≤ length before → size ≤ length after
-front-inside before new is e room =
+put-in-front before new is e room =
     let same = length-put before 0 new (omega arith) in
-    rw is (omega arith)
+    (rw is (omega arith), rw (is, e) (take-at new _ (length new) refl))
 
 -- ---- a document's normal form may be written, or it is too large, and so is its row
 
+abbrev Metadata : Doc → List ℕ
+Metadata d = metadataBytes (namesUsed d)
+
+abbrev Value : Doc → List ℕ
+Value d = valueBytes (namesUsed d) d
+
 data Writing (d : Doc) : Type 0 where
   large : written d ≡ refused TooLarge → ((node : Schema) → rowOutcome node d ≡ refused TooLarge) → Writing d
-  fitting : length (valueBytes (namesUsed d) d) ≤ mostValue → written d ≡ reached (normalForm d) → Writing d
+  fitting : length (Value d) ≤ mostValue → written d ≡ reached (normalForm d) → Writing d
 
 writing : (d : Doc) → Writing d
 unfolding written rowOutcome writable require normalForm
-writing d = go (leb (length (valueBytes (namesUsed d) d)) mostValue) refl
+writing d = go (leb (length (Value d)) mostValue) refl
   where
-    go : (b : Bool) → leb (length (valueBytes (namesUsed d) d)) mostValue ≡ b → Writing d
-    go true e = fitting (leb-true (length (valueBytes (namesUsed d) d)) mostValue e) (rw e)
+    go : (b : Bool) → leb (length (Value d)) mostValue ≡ b → Writing d
+    go true e = fitting (leb-true (length (Value d)) mostValue e) (rw e)
     go false e = large (rw e) (λ node. rw e)
 
 -- ---- what normalise answered
 
 module _ (d : Doc) {first first′ second second′ : List ℕ} {a : DocumentAnswer} (answered : Answered (written d) first first′ second second′ a) where
+  abbrev Rooms : Bool
+  Rooms = leb (length (Metadata d)) (length first) && leb (length (Value d)) (length second)
+
+  was-refused : written d ≡ refused TooLarge → a ≡ document.Refused TooLarge
+  unfolding documentAnswer
+  was-refused is = rw is at (answered .answer-is)
+
+  was-short : written d ≡ reached (normalForm d) → Rooms ≡ false → a ≡ document.Short (length (Metadata d)) (length (Value d))
+  unfolding documentAnswer documentRoom normalForm
+  was-short is room = rw (is, room) at (answered .answer-is)
+
+  was-done : written d ≡ reached (normalForm d) → Rooms ≡ true → a ≡ document.Done (length (Metadata d)) (length (Value d))
+  unfolding documentAnswer documentRoom normalForm
+  was-done is room = rw (is, room) at (answered .answer-is)
+
   -- Done: the normal form stands in front of both buffers.
   record Stands (k l : ℕ) : Type 0 where
     pub metadata-inside : k ≤ length first′
-    pub metadata-stands : take k first′ ≡ metadataBytes (namesUsed d)
+    pub metadata-stands : take k first′ ≡ Metadata d
     pub value-inside : l ≤ length second′
-    pub value-stands : take l second′ ≡ valueBytes (namesUsed d) d
-    pub fits : length (valueBytes (namesUsed d) d) ≤ mostValue
+    pub value-stands : take l second′ ≡ Value d
+    pub fits : length (Value d) ≤ mostValue
 
   done-stands : {k l : ℕ} → a ≡ document.Done k l → Stands k l
-  unfolding documentAnswer metadataWritten valueWritten documentRoom normalForm
+  unfolding metadataWritten valueWritten documentRoom normalForm
   done-stands {k} {l} e = go (writing d)
     where
-      by-room : written d ≡ reached (normalForm d) → length (valueBytes (namesUsed d) d) ≤ mostValue
-          → (b : Bool) → leb (length (metadataBytes (namesUsed d))) (length first) && leb (length (valueBytes (namesUsed d) d)) (length second) ≡ b → Stands k l
+      by-room : written d ≡ reached (normalForm d) → length (Value d) ≤ mostValue → (b : Bool) → Rooms ≡ b → Stands k l
       by-room is short true room =
-          let told : a ≡ document.Done (length (metadataBytes (namesUsed d))) (length (valueBytes (namesUsed d) d)) = rw (is, room) at (answered .answer-is) in
-          let k-is : k ≡ length (metadataBytes (namesUsed d)) = cc in
-          let l-is : l ≡ length (valueBytes (namesUsed d) d) = cc in
-          let metadata-is : first′ ≡ putAt first 0 (metadataBytes (namesUsed d)) = rw (is, room) at (answered .metadata-is) in
-          let value-is : second′ ≡ putAt second 0 (valueBytes (namesUsed d) d) = rw (is, room) at (answered .value-is) in
-          let rooms = and-both (leb (length (metadataBytes (namesUsed d))) (length first)) (leb (length (valueBytes (namesUsed d) d)) (length second)) room in
-          let metadata-room = leb-true (length (metadataBytes (namesUsed d))) (length first) (rooms .0) in
-          let value-room = leb-true (length (valueBytes (namesUsed d) d)) (length second) (rooms .1) in
-          record {
-            metadata-inside = front-inside first (metadataBytes (namesUsed d)) metadata-is k-is metadata-room;
-            metadata-stands = front-bytes first (metadataBytes (namesUsed d)) metadata-is k-is;
-            value-inside = front-inside second (valueBytes (namesUsed d) d) value-is l-is value-room;
-            value-stands = front-bytes second (valueBytes (namesUsed d) d) value-is l-is;
-            fits = short;
-          }
-      by-room is short false room =
-          let told : a ≡ document.Short (length (metadataBytes (namesUsed d))) (length (valueBytes (namesUsed d) d)) = rw (is, room) at (answered .answer-is) in
-          absurd (let z : _≡_ {A = ℕ} 0 1 = cc in omega arith)
+          let told = was-done is room in
+          let k-is : k ≡ length (Metadata d) = cc in
+          let l-is : l ≡ length (Value d) = cc in
+          let rooms = and-both (leb (length (Metadata d)) (length first)) (leb (length (Value d)) (length second)) room in
+          let metadata = put-in-front first (Metadata d) (rw (is, room) at (answered .metadata-is)) k-is (leb-true (length (Metadata d)) (length first) (rooms .0)) in
+          let value = put-in-front second (Value d) (rw (is, room) at (answered .value-is)) l-is (leb-true (length (Value d)) (length second) (rooms .1)) in
+          record { metadata-inside = metadata .0; metadata-stands = metadata .1; value-inside = value .0; value-stands = value .1; fits = short }
+      by-room is short false room = let told = was-short is room in absurd (let z : _≡_ {A = ℕ} 0 1 = cc in omega arith)
 
       go : Writing d → Stands k l
-      go (large refuses row) =
-          let told : a ≡ document.Refused TooLarge = rw refuses at (answered .answer-is) in
-          absurd (let z : _≡_ {A = ℕ} 0 1 = cc in omega arith)
+      go (large refuses row) = let told = was-refused refuses in absurd (let z : _≡_ {A = ℕ} 0 1 = cc in omega arith)
       go (fitting short is) = by-room is short _ refl
 
   -- Short: not where both buffers have room.
-  never-short : {k l : ℕ} → a ≡ document.Short k l
-      → (length (valueBytes (namesUsed d) d) ≤ mostValue → (length (metadataBytes (namesUsed d)) ≤ length first) × (length (valueBytes (namesUsed d) d) ≤ length second)) → ⊥
-  unfolding documentAnswer documentRoom normalForm
+  never-short : {k l : ℕ} → a ≡ document.Short k l → (length (Value d) ≤ mostValue → (length (Metadata d) ≤ length first) × (length (Value d) ≤ length second)) → ⊥
   never-short {k} {l} e room = go (writing d)
     where
       go : Writing d → ⊥
-      go (large refuses row) =
-          let told : a ≡ document.Refused TooLarge = rw refuses at (answered .answer-is) in
-          let z : _≡_ {A = ℕ} 0 1 = cc in
-          omega arith
+      go (large refuses row) = let told = was-refused refuses in let z : _≡_ {A = ℕ} 0 1 = cc in omega arith
       go (fitting short is) =
-          let m : ℕ = length (metadataBytes (namesUsed d)) in
-          let v : ℕ = length (valueBytes (namesUsed d) d) in
-          let told : a ≡ document.Done m v = answered .answer-is ∙ rw (is, le-leb m (length first) (room short .0), le-leb v (length second) (room short .1)) in
+          let told = was-done is (rw (le-leb (length (Metadata d)) (length first) (room short .0), le-leb (length (Value d)) (length second) (room short .1))) in
           let z : _≡_ {A = ℕ} 0 1 = cc in
           omega arith
 
   -- Refused: so is the row.
   row-refused : {refusal : Refusal} → a ≡ document.Refused refusal → (node : Schema) (row : List ℕ) → RowAnswered (rowOutcome node d) row row (Refused refusal)
-  unfolding documentAnswer
   row-refused {refusal} e node row = go (writing d)
     where
-      by-room : written d ≡ reached (normalForm d) → (b : Bool) → documentRoom (normalForm d) (length first) (length second) ≡ b
-          → RowAnswered (rowOutcome node d) row row (Refused refusal)
-      by-room is true room =
-          let told : a ≡ document.Done (length (normalForm d .metadata)) (length (normalForm d .value)) = rw (is, room) at (answered .answer-is) in
-          absurd (let z : _≡_ {A = ℕ} 0 1 = cc in omega arith)
-      by-room is false room =
-          let told : a ≡ document.Short (length (normalForm d .metadata)) (length (normalForm d .value)) = rw (is, room) at (answered .answer-is) in
-          absurd (let z : _≡_ {A = ℕ} 0 1 = cc in omega arith)
+      by-room : written d ≡ reached (normalForm d) → (b : Bool) → Rooms ≡ b → RowAnswered (rowOutcome node d) row row (Refused refusal)
+      by-room is true room = let told = was-done is room in absurd (let z : _≡_ {A = ℕ} 0 1 = cc in omega arith)
+      by-room is false room = let told = was-short is room in absurd (let z : _≡_ {A = ℕ} 0 1 = cc in omega arith)
 
       go : Writing d → RowAnswered (rowOutcome node d) row row (Refused refusal)
       go (large refuses refuses-row) =
-          let told : a ≡ document.Refused TooLarge = rw refuses at (answered .answer-is) in
+          let told = was-refused refuses in
           let same : TooLarge ≡ refusal = cc in
           refused-row (refuses-row node ∙ ap refused same) row
       go (fitting short is) = by-room is _ refl
@@ -163,7 +155,7 @@ module _ {m : List ℕ} {names : Names} {v : List ℕ} (lent : Lent m names v) {
   refused-answers e schema row node d is means = row-refused d (answers d means) e node row
 
   module _ (bytes : (i : ℕ) → getD m i 0 < 256) where
-    accepted : (d : Doc) → meaningOf mostLevels (namesIn m) v ≡ some d → length (valueBytes (namesUsed d) d) ≤ mostValue → Accepted m v (normalForm d)
+    accepted : (d : Doc) → meaningOf mostLevels (namesIn m) v ≡ some d → length (Value d) ≤ mostValue → Accepted m v (normalForm d)
     accepted d means fits =
         record {
           names = namesIn m;
@@ -176,8 +168,7 @@ module _ {m : List ℕ} {names : Names} {v : List ℕ} (lent : Lent m names v) {
           written-is = refl;
         }
 
-    metadata-shorter : (d : Doc) → meaningOf mostLevels (namesIn m) v ≡ some d → length (valueBytes (namesUsed d) d) ≤ mostValue
-        → length (metadataBytes (namesUsed d)) ≤ length m
+    metadata-shorter : (d : Doc) → meaningOf mostLevels (namesIn m) v ≡ some d → length (Value d) ≤ mostValue → length (Metadata d) ≤ length m
     unfolding accepted
     metadata-shorter d means fits = normal-shorter m v (normalForm d) (accepted d means fits) bytes
 
@@ -189,7 +180,7 @@ module _ {m : List ℕ} {names : Names} {v : List ℕ} (lent : Lent m names v) {
         let few = names-few (lent .opened) (lent .metadata-short) in
         let count = opened-count (lent .opened) in
         let short = lent .value-short in
-        let most : length (valueBytes (namesUsed (meant .0)) (meant .0)) ≤ 2 * length v =
+        let most : length (Value (meant .0)) ≤ 2 * length v =
         normal-grows mostLevels (namesIn m) v (meant .0) (meant .1) value-bytes (omega arith) (omega arith) in
         never-short (meant .0) (answers (meant .0) (meant .1)) e λ fits.
         (let shorter = metadata-shorter (meant .0) (meant .1) fits in let room = scratch .metadata-room in omega arith, let room = scratch .value-room in omega arith)
