@@ -1,0 +1,4 @@
+-- The promises shown.
+pub mod TableLaws
+pub mod AnyBytes
+pub mod Buffers
