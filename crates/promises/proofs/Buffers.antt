@@ -65,7 +65,7 @@ documents-untouched (refused r) metadataBefore valueBefore other = (put-none met
 documents-untouched (reached document) metadataBefore valueBefore other = untouched document metadataBefore valueBefore _ refl other
 
 -- Two answers of different cases are not the same.
-apart : {A : Type 0} → _≡_ {A = ℕ} 0 1 → A
+pub apart : {A : Type 0} → _≡_ {A = ℕ} 0 1 → A
 apart e = absurd (omega (arith, e))
 
 same-done : {a b c d : ℕ} → DocumentAnswer.Done a b ≡ DocumentAnswer.Done c d → (c ≡ a) × (d ≡ b)

@@ -2,3 +2,5 @@
 pub mod TableLaws
 pub mod AnyBytes
 pub mod Buffers
+pub mod DoneLaws
+pub mod OneRow

@@ -1,4 +1,8 @@
--- The demands, a file to each; before them the words that they share.
+-- The demands, a file to each, and before them the words that they share.
 pub mod Tables
 pub mod AnyBytes
 pub mod Buffers
+pub mod Done
+pub mod Walking
+pub mod Columns
+pub mod OneRow
