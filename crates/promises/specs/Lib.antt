@@ -6,3 +6,4 @@ pub mod Done
 pub mod Walking
 pub mod Columns
 pub mod OneRow
+pub mod Screens
