@@ -8,3 +8,4 @@ pub mod WalkingLaws
 pub mod ShownLaws
 pub mod Columns
 pub mod Screens
+pub mod ShutOut

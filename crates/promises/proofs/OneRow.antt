@@ -16,7 +16,7 @@ same-row-same-meaning schema metadata value metadata′ value′ row row′ room
     (row-reached (shredOutcome schema metadata value) room row shreds .0)
     (row-reached (shredOutcome schema metadata′ value′) room′ row′ shreds′ .0)
 
-one-reached : {a b : Document} → _≡_ {A = Outcome Document} (reached a) (reached b) → a ≡ b
+pub one-reached : {a b : Document} → _≡_ {A = Outcome Document} (reached a) (reached b) → a ≡ b
 one-reached e = cc
 
 pub one-document : One-Document

@@ -7,3 +7,4 @@ pub mod Walking
 pub mod Columns
 pub mod OneRow
 pub mod Screens
+pub mod ShutOut
