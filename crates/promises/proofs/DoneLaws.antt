@@ -18,6 +18,9 @@ use Rattle.promises.proofs.Buffers.{apart}
 
 -- ---- a document
 
+pub one-reached : {a b : Document} → _≡_ {A = Outcome Document} (reached a) (reached b) → a ≡ b
+one-reached e = cc
+
 abbrev document : (metadata value : List ℕ) → Document
 document metadata value = record { metadata = metadata; value = value }
 

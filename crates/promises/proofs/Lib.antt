@@ -1,11 +1,13 @@
--- The promises shown.
+-- The promises shown: laws by topic, and a file to a demand.
 pub mod TableLaws
 pub mod AnyBytes
 pub mod Buffers
 pub mod DoneLaws
-pub mod OneRow
 pub mod WalkingLaws
 pub mod ShownLaws
+pub mod SoundLaws
+pub mod RebuiltLaws
 pub mod Columns
+pub mod OneRow
 pub mod Screens
 pub mod ShutOut

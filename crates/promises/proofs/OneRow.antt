@@ -5,10 +5,10 @@ use Prim.Native.Nat.{ℕ}
 use Rattle.forms.proofs.NormalLaws.{normal-again, same-meaning}
 use Rattle.paper.specs.Normal.{Document}
 use Rattle.paper.specs.Operations.{normaliseOutcome, shredOutcome, rebuildOutcome}
-use Rattle.paper.specs.Refusals.{Outcome, reached}
 use Rattle.written.proofs.ShredLaws.{shred-rebuilt, shred-again, same-shredded}
-use Rattle.promises.specs.OneRow.{Same-Row-Same-Meaning, One-Document, Row-Again, Normal-Again, Same-Form-Same-Meaning}
-use Rattle.promises.proofs.DoneLaws.{document-reached, reached-document, row-reached, reached-row}
+use Rattle.promises.specs.OneRow.{Same-Row-Same-Meaning, One-Document, Rebuilt-Normal, Row-Again, Normal-Again, Same-Form-Same-Meaning}
+use Rattle.promises.proofs.DoneLaws.{one-reached, document-reached, reached-document, row-reached, reached-row}
+use Rattle.promises.proofs.RebuiltLaws.{rebuilt-again}
 
 pub same-row-same-meaning : Same-Row-Same-Meaning
 same-row-same-meaning schema metadata value metadata′ value′ row row′ room room′ bytes bytes′ shreds shreds′ =
@@ -16,14 +16,16 @@ same-row-same-meaning schema metadata value metadata′ value′ row row′ room
     (row-reached (shredOutcome schema metadata value) room row shreds .0)
     (row-reached (shredOutcome schema metadata′ value′) room′ row′ shreds′ .0)
 
-pub one-reached : {a b : Document} → _≡_ {A = Outcome Document} (reached a) (reached b) → a ≡ b
-one-reached e = cc
-
 pub one-document : One-Document
 one-document schema row metadataRoom valueRoom metadataRoom′ valueRoom′ form form′ rebuilds rebuilds′ =
     one-reached
     (sym (document-reached (rebuildOutcome schema row) metadataRoom valueRoom form rebuilds .0)
     ∙ document-reached (rebuildOutcome schema row) metadataRoom′ valueRoom′ form′ rebuilds′ .0)
+
+pub rebuilt-normal : Rebuilt-Normal
+rebuilt-normal schema row metadataRoom valueRoom form bytes rebuilds =
+    let is = document-reached (rebuildOutcome schema row) metadataRoom valueRoom form rebuilds in
+    reached-document (normaliseOutcome (form .metadata) (form .value)) metadataRoom valueRoom form (rebuilt-again schema row form bytes (is .0)) (is .1)
 
 pub row-again : Row-Again
 row-again schema metadata value row room metadataRoom valueRoom form bytes shreds rebuilds =

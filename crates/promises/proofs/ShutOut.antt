@@ -4,17 +4,15 @@ use mathlib.Core.List.{List, []}
 use mathlib.Core.Option.{some, Option·some-injective as some-injective}
 use mathlib.Core.Path.{_≡_, refl, sym, ap, _∙_}
 use Prim.Native.Nat.{ℕ}
-use borrow.Author.Tests.{le-leb}
 use lib.ListN.{length, take}
-use Rattle.forms.proofs.NormalLaws.{short-writable, normal-back, accepted-means, accepted-written, same-reached, require-reached}
+use Rattle.forms.proofs.NormalLaws.{accepted-means, accepted-written, same-reached, require-reached}
 use Rattle.paper.proofs.WordLaws.{never}
 use Rattle.paper.specs.Answers.{presentOf}
-use Rattle.paper.specs.Limits.{mostLevels, mostMetadata, mostValue}
 use Rattle.paper.specs.Lots.{allHold}
 use Rattle.paper.specs.Meaning.{Doc, null, scalar, array, object}
 use Rattle.paper.specs.Normal.{Document, normalForm}
-use Rattle.paper.specs.Operations.{checkOutcome, documentFits, judged, valueJudged, writable, written, normaliseOutcome, shredOutcome}
-use Rattle.paper.specs.Refusals.{Outcome, reached, require, obtain}
+use Rattle.paper.specs.Operations.{writable, written, normaliseOutcome, shredOutcome}
+use Rattle.paper.specs.Refusals.{Outcome}
 use Rattle.paper.specs.Running.{running}
 use Rattle.paper.specs.Rows.{rowOf}
 use Rattle.paper.specs.Rules.{hasTyped, hasLeftover}
@@ -29,15 +27,14 @@ use Rattle.promises.specs.ShutOut.{everyKind, boxNames, boxValue, Every-
 use Rattle.promises.specs.Columns.{ReadBack}
 use Rattle.promises.proofs.Buffers.{row-done, documents-done}
 use Rattle.promises.proofs.Columns.{row-reads-back}
-use Rattle.promises.proofs.OneRow.{one-reached, same-row-same-meaning}
+use Rattle.promises.proofs.DoneLaws.{one-reached}
+use Rattle.promises.proofs.OneRow.{same-row-same-meaning}
+use Rattle.promises.proofs.RebuiltLaws.{form-means}
 
 -- ---- refusing everything
 
 pub every-document-accepted : Every-Document-Accepted
-unfolding checkOutcome documentFits judged valueJudged require obtain
-every-document-accepted d good metadata-fits value-fits =
-    let back = normal-back mostLevels d (short-writable mostLevels d good (unfold normalForm in value-fits) (unfold normalForm in metadata-fits)) in
-    rw (le-leb (length (normalForm d .metadata)) mostMetadata metadata-fits, le-leb (length (normalForm d .value)) mostValue value-fits, back .0, back .1)
+every-document-accepted = form-means
 
 pub every-kind-accepted : Every-Kind-Accepted
 unfolding running allHold everyKind

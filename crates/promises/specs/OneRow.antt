@@ -20,6 +20,12 @@ One-Document =
     (schema row : List ℕ) (metadataRoom valueRoom metadataRoom′ valueRoom′ : ℕ) (form form′ : Document)
     → Rebuilds schema row metadataRoom valueRoom form → Rebuilds schema row metadataRoom′ valueRoom′ form′ → form ≡ form′
 
+-- And that document is in normal form, whoever wrote the row: normalising it changes nothing.
+abbrev pub Rebuilt-Normal : Type 0
+Rebuilt-Normal =
+    (schema row : List ℕ) (metadataRoom valueRoom : ℕ) (form : Document) → Bytes row → Rebuilds schema row metadataRoom valueRoom form
+    → Normalises (form .metadata) (form .value) metadataRoom valueRoom form
+
 -- Shredding the form that a row of shred rebuilds to gives that row again, under the same schema.
 abbrev pub Row-Again : Type 0
 Row-Again =

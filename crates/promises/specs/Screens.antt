@@ -9,7 +9,7 @@ use Rattle.paper.specs.Rebuilding.{orNull, placeMeaning, rowMeaning}
 use Rattle.paper.specs.Rows.{Row, rowOf}
 use Rattle.paper.specs.Schemas.{Schema, schemaOf}
 use Rattle.paper.specs.Standing.{Step, standsAt}
-use Rattle.promises.specs.Done.{Rebuilds}
+use Rattle.promises.specs.Done.{Bytes, Means, Rebuilds}
 use Rattle.promises.specs.Walking.{Stop, placeAt}
 
 -- What a place shows: a typed cell's value, a leftover's, an object's two halves together, or nothing where it is empty. "An empty
@@ -19,10 +19,18 @@ shows [] stop = some (orNull (placeMeaning (stop .node) (stop .held)))
 shows (step ∷ more) stop = placeMeaning (stop .node) (stop .held)
 
 -- For every row that rebuild accepts, whoever wrote it, and every path of names and indexes through the schema to a place: what the
--- place shows is what stands at that path in the document that is rebuilt.
+-- place shows is what stands at that path in the document that was written. So no column shows a lot that the document does not
+-- have, and the document has none there that the column does not show.
 abbrev pub Screens-Agree : Type 0
 Screens-Agree =
-    (schema row : List ℕ) (metadataRoom valueRoom : ℕ) (form : Document) → Rebuilds schema row metadataRoom valueRoom form
+    (schema row : List ℕ) (metadataRoom valueRoom : ℕ) (form : Document) → Bytes row → Rebuilds schema row metadataRoom valueRoom form
     → (node : Schema) (parsed : Row) → schemaOf schema ≡ some node → rowOf node row ≡ some parsed
-    → (path : List Step) (stop : Stop) → placeAt node (parsed .outermost) path ≡ some stop
-    → standsAt (rowMeaning node parsed) path ≡ shows path stop
+    → (d : Doc) → Means (form .metadata) (form .value) d
+    → (path : List Step) (stop : Stop) → placeAt node (parsed .outermost) path ≡ some stop → standsAt d path ≡ shows path stop
+
+-- And the document that was written is lawful: it means what the row means.
+abbrev pub Rebuilt-Means : Type 0
+Rebuilt-Means =
+    (schema row : List ℕ) (metadataRoom valueRoom : ℕ) (form : Document) → Bytes row → Rebuilds schema row metadataRoom valueRoom form
+    → (node : Schema) (parsed : Row) → schemaOf schema ≡ some node → rowOf node row ≡ some parsed
+    → Means (form .metadata) (form .value) (rowMeaning node parsed)
