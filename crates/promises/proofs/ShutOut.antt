@@ -23,7 +23,7 @@ use Rattle.written.proofs.ShredLaws.{Shredded, shredded}
 use Rattle.written.specs.Everywhere.{takesDoc}
 use Rattle.written.specs.Fitting.{cutRow}
 use Rattle.promises.specs.Buffers.{ComeFirst, DocumentStands, RowStands}
-use Rattle.promises.specs.ShutOut.{everyKind, boxNames, boxValue, Every-Document-Accepted, Every-Kind-Accepted, Readers-Accept, No-Fixed-Row, No-Copy, Not-Left-Over, Done-Row-Written, Done-Form-Written}
+use Rattle.promises.specs.ShutOut.{everyKind, encodings, boxNames, boxValue, Every-Document-Accepted, Every-Kind-Accepted, Readers-Accept, No-Fixed-Row, No-Copy, Encodings-One-Row, Not-Left-Over, Done-Row-Written, Done-Form-Written}
 use Rattle.promises.specs.Columns.{ReadBack}
 use Rattle.promises.proofs.Buffers.{row-done, documents-done}
 use Rattle.promises.proofs.Columns.{row-reads-back}
@@ -53,6 +53,10 @@ no-fixed-row schema metadata value metadata′ value′ row row′ room room′ 
 pub no-copy : No-Copy
 no-copy schema metadata value metadata′ value′ row row′ room room′ bytes bytes′ shreds shreds′ d means means′ =
     same-row-same-meaning schema metadata value metadata′ value′ row row′ room room′ bytes bytes′ shreds shreds′ d d means means′ .1 refl
+
+pub encodings-one-row : Encodings-One-Row
+unfolding running allHold encodings
+encodings-one-row = (refl, (refl, (refl, tt)))
 
 -- ---- everything left over
 
