@@ -12,7 +12,7 @@ use Rattle.paper.specs.Limits.{mostMetadata, mostValue, mostSchema, mostPath, m
 use Rattle.paper.specs.Meaning.{Doc}
 use Rattle.paper.specs.Metadata.{Dictionary, dictionaryOf}
 use Rattle.paper.specs.Normal.{Document, normalForm}
-use Rattle.paper.specs.Operations.{judged, valueJudged, documentFits, checkOutcome, checkedBy, checkAnswer, findOutcome, foundBy, findAnswer, written, writable, documentRoom, documentAnswer, normaliseOutcome, shredOutcome, rowAnswer, rowJudged, rebuildOutcome, cellOutcome, cellReadBy, cellAnswer, boxOutcome, boxReadBy, boxAnswer}
+use Rattle.paper.specs.Operations.{judged, valueJudged, documentFits, checkOutcome, checkedBy, checkAnswer, findOutcome, foundBy, findAnswer, written, writable, documentRoom, documentAnswer, normaliseOutcome, shredOutcome, rowAnswer, rowJudged, judgeAnswer, rebuildOutcome, cellOutcome, cellReadBy, cellAnswer, boxOutcome, boxReadBy, boxAnswer}
 use Rattle.paper.specs.Paths.{pathOf}
 use Rattle.paper.specs.Rebuilding.{rowMeaning}
 use Rattle.paper.specs.Refusals.{Outcome, refused, reached, require, obtain}
@@ -28,7 +28,7 @@ use Rattle.paper.specs.declared.LotBox.{LotBox}
 use Rattle.paper.specs.declared.RowAnswer.{RowAnswer}
 use Rattle.paper.specs.declared.Refusal.the-variants.{TooLong, BadMetadata, BadValue, BadSchema, BadPath, BadRow, BrokenRule, TooLarge}
 use Rattle.promises.specs.Tables.{Line, _when_, GivenExactly, ofIt}
-use Rattle.promises.specs.AnyBytes.{longer, documentTooLong, metadataBroken, valueBroken, schemaBroken, codeBroken, pathBroken, rowUnparsed, cellBroken, ruleBroken, documentOf, rebuiltOf, normalTooLarge, rowLonger, buffersShort, checkTable, findTable, normaliseTable, shredTable, rebuildTable, cellTable, boxTable, Check-Exactly-When, Find-Exactly-When, Normalise-Exactly-When, Shred-Exactly-When, Rebuild-Exactly-When, Cell-Exactly-When, Box-Exactly-When}
+use Rattle.promises.specs.AnyBytes.{longer, documentTooLong, metadataBroken, valueBroken, schemaBroken, codeBroken, pathBroken, rowUnparsed, cellBroken, ruleBroken, documentOf, rebuiltOf, normalTooLarge, rowLonger, buffersShort, checkTable, findTable, normaliseTable, shredTable, rebuildTable, judgeTable, cellTable, boxTable, Check-Exactly-When, Find-Exactly-When, Normalise-Exactly-When, Shred-Exactly-When, Rebuild-Exactly-When, Judge-Exactly-When, Cell-Exactly-When, Box-Exactly-When}
 use Rattle.promises.proofs.TableLaws.{first, rise, first-given, comesTo, Gives, require-line, obtain-line, nothing-left, last-line, longer-not, either-not}
 
 -- ---- inputs too long, and a lent document judged
@@ -162,23 +162,39 @@ shred-exactly-when schema metadata value room =
     last-line _ _ (short-number (leb (length (rowBytes node d)) room) (rowLonger schema (documentOf metadata value) room) (rw (is, node-is) (fits-not (rowBytes node d) room))))
     refl
 
--- ---- rebuild
+-- ---- rebuild, and the judge
 
 rebuilt-is : (schema row : List ℕ) (node : Schema) (parsed : Row) → schemaOf schema ≡ some node → rowOf node row ≡ some parsed
     → rowLawful node parsed ≡ true → rebuiltOf schema row ≡ some (rowMeaning node parsed)
 unfolding rebuiltOf andThen given
 rebuilt-is schema row node parsed node-is parsed-is lawful = rw (node-is, parsed-is, lawful)
 
-pub rebuild-exactly-when : Rebuild-Exactly-When
-unfolding rebuildOutcome rowJudged rebuildTable schemaBroken rowUnparsed ruleBroken ofIt rise
-rebuild-exactly-when schema row metadataRoom valueRoom =
-    exactly _ (document-number metadataRoom valueRoom (rebuildOutcome schema row))
-    (require-line TooLong (leb (length schema) mostSchema && leb (length row) mostRow) _
+row-lines : {A : Type 0} {last : A → ℕ} {rest : List Line} (schema row : List ℕ) (next : Schema → Row → Outcome A)
+    → ((node : Schema) (parsed : Row) → schemaOf schema ≡ some node → rowOf node row ≡ some parsed → rowLawful node parsed ≡ true → Gives last (next node parsed) rest)
+    → Gives last (rowJudged schema row next)
+    ((1 when longer schema mostSchema || longer row mostRow)
+    ∷ (4 when schemaBroken schema) ∷ (6 when rowUnparsed schema row) ∷ (7 when ruleBroken schema row) ∷ rest)
+unfolding rowJudged schemaBroken rowUnparsed ruleBroken ofIt
+row-lines schema row next goes =
+    require-line TooLong (leb (length schema) mostSchema && leb (length row) mostRow) _
     (either-not (leb (length schema) mostSchema) (leb (length row) mostRow) (fits-not schema mostSchema) (fits-not row mostRow)) _ λ fits.
     obtain-line BadSchema (schemaOf schema) _ refl _ λ node node-is.
     obtain-line BadRow (rowOf node row) _ (rw node-is) _ λ parsed parsed-is.
-    require-line BrokenRule (rowLawful node parsed) _ (rw (node-is, parsed-is)) _ λ lawful.
+    require-line BrokenRule (rowLawful node parsed) _ (rw (node-is, parsed-is)) _ λ lawful. goes node parsed node-is parsed-is lawful
+
+pub rebuild-exactly-when : Rebuild-Exactly-When
+unfolding rebuildOutcome rebuildTable rise
+rebuild-exactly-when schema row metadataRoom valueRoom =
+    exactly _ (document-number metadataRoom valueRoom (rebuildOutcome schema row))
+    (row-lines schema row _ λ node parsed node-is parsed-is lawful.
     written-lines metadataRoom valueRoom (rebuiltOf schema row) (rowMeaning node parsed) (rebuilt-is schema row node parsed node-is parsed-is lawful))
+    refl
+
+pub judge-exactly-when : Judge-Exactly-When
+unfolding judgeAnswer judgeTable rise
+judge-exactly-when schema row =
+    exactly _ (checked-number (rowJudged schema row λ node parsed. reached parsed))
+    (row-lines schema row _ λ node parsed node-is parsed-is lawful. nothing-left parsed refl)
     refl
 
 -- ---- the two readers

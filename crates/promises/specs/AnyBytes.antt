@@ -125,6 +125,15 @@ rebuildTable schema row metadataRoom valueRoom =
     ∷ (9 when buffersShort (rebuiltOf schema row) metadataRoom valueRoom)
     ∷ []
 
+-- Rebuild's judgement of a row by itself, beside the seven.
+unfoldable pub judgeTable : (schema row : List ℕ) → List Line
+judgeTable schema row =
+    (1 when longer schema mostSchema || longer row mostRow)
+    ∷ (4 when schemaBroken schema)
+    ∷ (6 when rowUnparsed schema row)
+    ∷ (7 when ruleBroken schema row)
+    ∷ []
+
 unfoldable pub cellTable : (code : ℕ) → List ℕ → List Line
 cellTable code cell = (1 when longer cell mostCell) ∷ (4 when codeBroken code) ∷ (6 when cellBroken code cell) ∷ []
 
@@ -159,6 +168,10 @@ Rebuild-Exactly-When =
     (schema row : List ℕ) (metadataRoom valueRoom : ℕ)
     → GivenExactly (rebuildTable schema row metadataRoom valueRoom)
     (numberOf (documentCarries (documentAnswer (rebuildOutcome schema row) metadataRoom valueRoom)))
+
+abbrev pub Judge-Exactly-When : Type 0
+Judge-Exactly-When =
+    (schema row : List ℕ) → GivenExactly (judgeTable schema row) (numberOf (checkedCarries (judgeAnswer schema row)))
 
 abbrev pub Cell-Exactly-When : Type 0
 Cell-Exactly-When = (code : ℕ) (cell : List ℕ) → GivenExactly (cellTable code cell) (numberOf (cellCarries (cellAnswer code cell)))
