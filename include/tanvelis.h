@@ -1,14 +1,13 @@
 /*
- * Tanvelis: seven operations over lent bytes that hold Parquet Variant documents. In the library so
- * far: check, find, normalise, rebuild, cell, box, and judge beside the seven; shred is declared here and
- * follows.
+ * Tanvelis: seven operations over lent bytes that hold Parquet Variant documents: check, find,
+ * normalise, shred, rebuild, cell and box; and judge beside the seven.
  *
  * SLICES. A slice is a pointer and then a length. `const uint8_t *` is an input and is only read;
  * `uint8_t *` is an output buffer, and its length is its room. A pointer is never null, also where
  * the length is 0 (any other pointer will do then). An output buffer overlaps no other slice.
  * Nothing is kept after a call, nothing is allocated, and any bytes at all may be lent. Scratch is on
  * the stack: at most 200 KB for check, find and box, at most 300 KB for normalise and judge, at most
- * 500 KB for rebuild.
+ * 500 KB for shred and rebuild.
  *
  * LIMITS. Metadata and value at most 16,384 bytes each; schema 4,096; path 1,024; row 65,535; a cell
  * lent to its reader 16,384. Nesting at most 16 levels, the outermost value being level 1. A longer

@@ -75,6 +75,10 @@ pub fn timed(op: Op) -> Vec<Timed> {
             let documents = shapes().into_iter().filter(|shape| !shape.is_odd());
             documents.filter_map(|shape| on_shape(op, shape)).chain(rows::rows(op)).collect()
         }
+        Op::Shred => {
+            let documents = shapes().into_iter().filter_map(|shape| on_shape(op, shape));
+            documents.chain(rows::documents()).collect()
+        }
         _ => shapes().into_iter().filter_map(|shape| on_shape(op, shape)).collect(),
     }
 }

@@ -19,7 +19,7 @@ use second::operations::rebuilt;
 use second::row::{LEFTOVER, METADATA, PLACE, TYPED};
 use second::schema::Node;
 use second::value::{STRING, TRUE};
-use second::vectors::Op;
+use second::vectors::{Case, Op};
 use std::ops::Range;
 
 /// How far a row is filled: up to its own limit, or up to that of its document's normal value.
@@ -49,6 +49,40 @@ pub fn rows(op: Op) -> Vec<Timed> {
         case: parts::on_row(op, schema, row).expect("an operation on rows"),
     };
     all.into_iter().flatten().map(case).collect()
+}
+
+/// The documents of these rows, to be shredded, and those whose row passes its limit.
+pub fn documents() -> Vec<Timed> {
+    let all = [
+        small(),
+        lists(Full::Value),
+        wide(Full::Value),
+        dictionaries(Full::Value),
+        beside(Full::Value),
+        parcels(),
+    ];
+    let of = |Rowed { shape, schema, row }: Rowed| {
+        let made = rebuilt(&schema, &row).ok()?;
+        Some(shredded(&shape, schema, made.metadata, made.value))
+    };
+    all.into_iter().flatten().filter_map(of).chain(too_long()).collect()
+}
+
+fn shredded(shape: &str, schema: Vec<u8>, metadata: Vec<u8>, value: Vec<u8>) -> Timed {
+    let case = Case::Shred { schema, metadata, value, room: limits::ROW };
+    Timed { shape: shape.to_string(), case }
+}
+
+/// Lists of empty objects under hundreds of fields: few bytes that ask for a row of millions.
+fn too_long() -> Vec<Timed> {
+    let names: Vec<_> = (0..370).map(two_letters).collect();
+    let schema = encoded(&list(object(&names)));
+    let objects = |count: usize| {
+        let doc = Doc::Array(vec![Doc::Object(vec![]); count]);
+        let (metadata, value) = encode(&doc, &[], Layout::Sorted);
+        shredded(&format!("row too long, {count} empty objects"), schema.clone(), metadata, value)
+    };
+    vec![objects(58), objects(3_000)]
 }
 
 /// A row of this metadata and what its outermost place holds.

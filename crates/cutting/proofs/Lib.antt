@@ -7,3 +7,4 @@ pub mod ColumnLaws
 pub mod NodeLaws
 pub mod ListLaws
 pub mod ObjectLaws
+pub mod MissingLaws

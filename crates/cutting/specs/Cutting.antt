@@ -1,7 +1,7 @@
 -- What the writers of a row stand on: a document's normal value under a dictionary, a node of a good schema, and the table that
 -- tells of its fields. Each writer's answer is told of every such reading of its bytes.
 use mathlib.Core.Bool.{Bool, true, false, _&&_}
-use mathlib.Core.List.{List}
+use mathlib.Core.List.{List, [], _++_}
 use mathlib.Core.Path.{_≡_}
 use Prim.Native.Nat.{ℕ, _≤_, _<_}
 use lib.Dec.{ltb, eqb}
@@ -13,11 +13,12 @@ use Rattle.lookup.specs.declared.Looked.{Looked}
 use Rattle.lookup.specs.declared.Looked.the-variants.{At, Nowhere}
 use Rattle.members.specs.Members.{IdThere, memberId, From}
 use Rattle.members.specs.declared.Members.{Members}
+use Rattle.paper.specs.Framing.{frame}
 use Rattle.paper.specs.Limits.{mostValue}
 use Rattle.paper.specs.Meaning.{Doc, Fields}
 use Rattle.paper.specs.Metadata.{Dictionary, rising}
 use Rattle.paper.specs.Normal.{fieldNames, valueBytes}
-use Rattle.paper.specs.Schemas.{Schema, list, fields, SchemaFields}
+use Rattle.paper.specs.Schemas.{Schema, list, fields, SchemaFields, noColumns, named}
 use Rattle.paper.specs.Shredding.{cut, cutFields, placeBytes, placesBytes}
 use Rattle.remainder.specs.Remainder.{Ground}
 use Rattle.schemas.specs.Positions.{Stands, FieldsStand}
@@ -116,3 +117,10 @@ pub data PassedBy (s : List ℕ) (m : Members) (from : ℕ) : Looked → (to : �
 unfoldable pub isMember : List ℕ → Members → (k : ℕ) → Looked → Bool
 isMember s m k (At id) = ltb k (m .count) && eqb (id .0) (memberId s m k)
 isMember s m k Nowhere = false
+
+-- ---- fields that are all missing
+
+-- An empty place for each.
+unfoldable pub empties : SchemaFields → List ℕ
+empties noColumns = []
+empties (named name node more) = frame 0x50 [] ++ empties more

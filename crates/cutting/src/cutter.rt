@@ -6,6 +6,7 @@ ghost use Rattle.heads.specs.Packing.{Readings};
 ghost use Rattle.paper.specs.Limits.{mostRow};
 ghost use Rattle.putting.specs.Put.{Room, PutAs};
 ghost use Rattle.cutting.specs.Cutting.{PlaceReady, placeCut, ListReady, listCut, ObjectReady, objectCut, FieldsReady, fieldsCut};
+use crate::missing::missing;
 use crate::passing::is_member;
 use crate::passing::member_from;
 use members::Members;
@@ -204,6 +205,9 @@ fn fields(
 {
     if from == to {
         return Put::At(end);
+    }
+    if members.count <= k {
+        return missing(schema, from, to, out, end);
     }
     let here = member_from(table, from, s, members, k);
     let next = schemas::frame_end(schema, from);

@@ -3,6 +3,7 @@
 //
 // The functions with a `requires` are inner ones: whoever calls them has written the normal form and had the schema judged.
 mod cutter;
+mod missing;
 mod passing;
 
 pub use cutter::place;

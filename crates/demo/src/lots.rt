@@ -1,11 +1,12 @@
 // Lots read and answered, an operation each.
 use crate::reading;
 use crate::saying;
+use crate::showing;
 use paper::BoxAnswer;
-use paper::CellAnswer;
 use paper::Checked;
 use paper::DocumentAnswer;
 use paper::Found;
+use paper::RowAnswer;
 
 // A document: good, or the number of the refusal.
 fn check(metadata: &[u8], value: &[u8]) {
@@ -125,16 +126,59 @@ fn into_buffers(
     );
 }
 
+// A document shredded into a buffer: the length written or needed, and whether the buffer now holds what is given.
+fn shredded(schema: &[u8], metadata: &[u8], value: &[u8], row_out: &mut [u8], given: &[u8]) {
+    let answer = register::shred(schema, metadata, value, row_out);
+    match answer {
+        RowAnswer::Done(length) => written(b": row ", length, row_out, given),
+        RowAnswer::Short(length) => saying::number(b": 9, the row needs ", length as u64),
+        RowAnswer::Refused(refusal) => saying::refused(refusal),
+    }
+}
+
+// Lays out the buffer, whose length is given in one byte.
+fn shred(schema: &[u8], metadata: &[u8], value: &[u8], rooms: &[u8], given: &[u8]) {
+    let mut row_out = [0u8; 256];
+    let size = reading::room(rooms, 0, &row_out);
+    shredded(schema, metadata, value, &mut row_out[..size], given);
+}
+
+// A value of a fixed size, by its type and payload.
+fn payload(bytes: &[u8]) {
+    if bytes.len() == 0 {
+        return saying::say(b": nothing");
+    }
+    showing::cell(bytes[0] / 4, &bytes[1..]);
+}
+
+// What another screen shows of a row: the part at a path of its document, rebuilt into two buffers.
+fn screen(schema: &[u8], row: &[u8], path: &[u8]) {
+    let mut metadata_out = [0u8; 256];
+    let mut value_out = [0u8; 256];
+    let answer = register::rebuild(schema, row, &mut metadata_out, &mut value_out);
+    let DocumentAnswer::Done {
+        metadata: first,
+        value: second,
+    } = answer
+    else {
+        return document(answer, &metadata_out, &value_out, path, path);
+    };
+    let metadata = reading::piece(&metadata_out, 0, first);
+    let value = reading::piece(&value_out, 0, second);
+    let found = register::find(metadata, value, path);
+    match found {
+        Found::At { start, length } => payload(reading::piece(value, start, length)),
+        Found::Absent => saying::say(b": absent"),
+        Found::Refused(refusal) => saying::refused(refusal),
+    }
+}
+
 // One typed cell: its type code, and its bytes.
 fn cell(code: &[u8], bytes: &[u8]) {
     if code.len() == 0 {
         return saying::say(b": no code");
     }
-    let answer = register::cell(code[0], bytes);
-    match answer {
-        CellAnswer::Read(read) => saying::cell(read),
-        CellAnswer::Refused(refusal) => saying::refused(refusal),
-    }
+    showing::cell(code[0], bytes);
 }
 
 // A document's box.
@@ -145,6 +189,23 @@ fn lot_box(metadata: &[u8], value: &[u8]) {
         BoxAnswer::Absent => saying::say(b": no box"),
         BoxAnswer::Refused(refusal) => saying::refused(refusal),
     }
+}
+
+// An operation on rows, by the word that a lot's line begins with.
+fn answer_row(line: &[u8], a: &[u8], b: &[u8], c: &[u8], d: &[u8], e: &[u8]) {
+    if reading::begins(line, b"shred") {
+        return shred(a, b, c, d, e);
+    }
+    if reading::begins(line, b"rebuild") {
+        return into_buffers(true, a, b, c, d, e);
+    }
+    if reading::begins(line, b"show") {
+        return showing::row(a, b);
+    }
+    if reading::begins(line, b"screen") {
+        return screen(a, b, c);
+    }
+    saying::say(b": no such operation")
 }
 
 // The operation that a lot's line begins with, on the line's other words.
@@ -158,16 +219,13 @@ fn answer(line: &[u8], a: &[u8], b: &[u8], c: &[u8], d: &[u8], e: &[u8]) {
     if reading::begins(line, b"normalise") {
         return into_buffers(false, a, b, c, d, e);
     }
-    if reading::begins(line, b"rebuild") {
-        return into_buffers(true, a, b, c, d, e);
-    }
     if reading::begins(line, b"cell") {
         return cell(a, b);
     }
     if reading::begins(line, b"box") {
         return lot_box(a, b);
     }
-    saying::say(b": no such operation")
+    answer_row(line, a, b, c, d, e)
 }
 
 // Reads a lot's words, at most five, and answers.

@@ -5,6 +5,7 @@
 mod lots;
 mod reading;
 mod saying;
+mod showing;
 
 use libc::STDIN_FILENO;
 

@@ -96,3 +96,15 @@ pub fn room(bytes: &[u8], place: usize, out: &[u8]) -> usize
     }
     io::count(numbers::wide(bytes[place]) as isize, out)
 }
+
+// The bytes from a place on, so many, as far as there are any.
+pub fn piece(s: &[u8], from: usize, size: usize) -> &[u8] {
+    if s.len() <= from {
+        return &s[..0];
+    }
+    if s.len() - from < size {
+        return &s[from..];
+    }
+    let to = from + size;
+    &s[from..to]
+}

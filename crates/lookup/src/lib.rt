@@ -27,7 +27,7 @@ pub enum Looked {
 }
 
 // Lists the ids from 0 on.
-fn list_ids(ids: &mut [u16])
+pub fn list_ids(ids: &mut [u16])
     requires { ⌜ length (now ids) ≤ mostNames ⌝ }
     ensures { λ _. ⌜ now (ids .exit) ≡ idsBelow (length (now (ids .entry))) ⌝ }
 {

@@ -18,11 +18,14 @@ module _ {m : List ℕ} {names : Names} (opened : Opened m names) where
   pub count-is : names .count ≡ length (namesIn m)
   count-is = opened .count ∙ read-count m (namesIn m) (opened-names opened)
 
-  pub names-few : length m ≤ mostMetadata → names .count ≤ mostNames
+  pub names-within : names .count ≤ length m
   unfolding offsetSize
-  names-few short =
+  names-within =
       let all = read-length m (namesIn m) (opened-names opened) in
       let one : (length (namesIn m) + 1) * 1 ≤ (length (namesIn m) + 1) * offsetSize (at m 0) = mul-le-mul (omega arith) (omega arith) in
       let same = mul-one (length (namesIn m) + 1) in
       let is = count-is in
       omega arith
+
+  pub names-few : length m ≤ mostMetadata → names .count ≤ mostNames
+  names-few short = let within = names-within in omega arith

@@ -111,13 +111,16 @@ normaliseOutcome metadata value =
 
 -- ---- shred
 
+-- A document's row, if both it and the document's normal form may be written.
+unfoldable pub rowOutcome : Schema → Doc → Outcome (List ℕ)
+rowOutcome node d = require (writable d && leb (length (rowBytes node d)) mostRow) TooLarge (reached (rowBytes node d))
+
 unfoldable pub shredOutcome : List ℕ → List ℕ → List ℕ → Outcome (List ℕ)
 shredOutcome schema metadata value =
     require (leb (length schema) mostSchema && documentFits metadata value) TooLong
     (judged metadata value λ names d.
     obtain (schemaOf schema) BadSchema λ node.
-    require (writable d && leb (length (rowBytes node d)) mostRow) TooLarge
-    (reached (rowBytes node d)))
+    rowOutcome node d)
 
 unfoldable pub rowAnswer : Outcome (List ℕ) → (room : ℕ) → RowAnswer
 rowAnswer (refused r) room = RowAnswer.Refused r

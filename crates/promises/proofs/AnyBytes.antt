@@ -12,7 +12,7 @@ use Rattle.paper.specs.Limits.{mostMetadata, mostValue, mostSchema, mostPath, m
 use Rattle.paper.specs.Meaning.{Doc}
 use Rattle.paper.specs.Metadata.{Dictionary, dictionaryOf}
 use Rattle.paper.specs.Normal.{Document, normalForm}
-use Rattle.paper.specs.Operations.{judged, valueJudged, documentFits, checkOutcome, checkedBy, checkAnswer, findOutcome, foundBy, findAnswer, written, writable, documentRoom, documentAnswer, normaliseOutcome, shredOutcome, rowAnswer, rowJudged, judgeAnswer, rebuildOutcome, cellOutcome, cellReadBy, cellAnswer, boxOutcome, boxReadBy, boxAnswer}
+use Rattle.paper.specs.Operations.{judged, valueJudged, documentFits, checkOutcome, checkedBy, checkAnswer, findOutcome, foundBy, findAnswer, written, writable, documentRoom, documentAnswer, normaliseOutcome, rowOutcome, shredOutcome, rowAnswer, rowJudged, judgeAnswer, rebuildOutcome, cellOutcome, cellReadBy, cellAnswer, boxOutcome, boxReadBy, boxAnswer}
 use Rattle.paper.specs.Paths.{pathOf}
 use Rattle.paper.specs.Rebuilding.{rowMeaning}
 use Rattle.paper.specs.Refusals.{Outcome, refused, reached, require, obtain}
@@ -148,7 +148,7 @@ row-number room (reached row) = go (leb (length row) room)
     go false = refl
 
 pub shred-exactly-when : Shred-Exactly-When
-unfolding shredOutcome shredTable schemaBroken normalTooLarge rowLonger ofIt writable rise
+unfolding shredOutcome rowOutcome shredTable schemaBroken normalTooLarge rowLonger ofIt writable rise
 shred-exactly-when schema metadata value room =
     exactly _ (row-number room (shredOutcome schema metadata value))
     (require-line TooLong (leb (length schema) mostSchema && documentFits metadata value) _

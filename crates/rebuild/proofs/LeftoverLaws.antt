@@ -1,7 +1,7 @@
 -- A lawful row that is a leftover alone: its document is that leftover's, so normalising the leftover answers.
 use mathlib.Core.List.{List}
 use mathlib.Core.Option.{Option, none, some, Option·some-injective as some-injective}
-use mathlib.Core.Path.{_≡_, refl, sym, ap, _∙_}
+use mathlib.Core.Path.{_≡_, refl, sym, _∙_}
 use Prim.Native.Nat.{ℕ}
 use native.Mathlib.Omega.{arith}
 use lib.Dec.{leb}
@@ -13,7 +13,7 @@ use Rattle.paper.specs.Meaning.{Doc}
 use Rattle.paper.specs.Metadata.{Dictionary, namesIn}
 use Rattle.paper.specs.Operations.{written}
 use Rattle.paper.specs.Rebuilding.{orNull, placeMeaningBy, placeMeaning}
-use Rattle.paper.specs.Rows.{Place, leftover, leftoverMeaning, placeUnder}
+use Rattle.paper.specs.Rows.{Place, leftoverMeaning, placeUnder}
 use Rattle.paper.specs.Rules.{placeLawful}
 use Rattle.paper.specs.Schemas.{Schema, schemaOf}
 use Rattle.paper.specs.Values.{meaningOf}
@@ -25,7 +25,7 @@ use Rattle.places.specs.declared.parts.Parts.the-variants.{Leftover}
 use Rattle.places.specs.declared.parts.Parts.{Parts}
 use Rattle.places.specs.declared.verdicts.Verdict.the-variants.{Lawful}
 use Rattle.rebuilt.proofs.HeldLaws.{Held, leftHeld, under-held}
-use Rattle.rebuilt.proofs.PartsLaws.{meaning-parts}
+use Rattle.rebuilt.proofs.PartsLaws.{typedMeaning, meaning-parts}
 use Rattle.rebuilt.proofs.ThereLaws.{unparsed-not, LeftThere, place-leftover}
 use Rattle.rebuilt.specs.Meant.{placeDoc}
 use Rattle.rows.specs.Judging.{metadataOf, outermostOf}
@@ -33,28 +33,30 @@ use Rattle.rows.specs.declared.judging.RowParts.{RowParts}
 use Rattle.rebuild.proofs.NumberedLaws.{place-lawful, row-there}
 use Rattle.rebuild.specs.Rebuilding.{Judged, docUnder, rowDoc}
 
--- ---- a leftover alone means what the place means
+-- ---- what a lawful place means, by what it holds
 
 module _ (under : Schema) (levels : ℕ) (names : Dictionary) (body : List ℕ) where
   abbrev Read : Option Place
   Read = placeUnder under levels names (record { tag = 0x50; body = body })
 
-  left-held : {p : Place} → Held (leftoverMeaning levels names) (typedUnder under levels names) body Leftover p → {d : Doc}
-      → meaningOf levels names (part body 3 (length body)) ≡ some d → p ≡ leftover d
-  unfolding leftoverMeaning
-  left-held (leftHeld {d = own} read) {d} means =
-      ap leftover (some-injective own d (sym (given-some (leb (length (part body 3 (length body))) mostLeftover) _ read .1) ∙ means))
-
-  left-doc : placeVerdict under levels names body ≡ Lawful → partsOf body ≡ Leftover → {d : Doc} → meaningOf levels names (part body 3 (length body)) ≡ some d
+  pub held-doc : placeVerdict under levels names body ≡ Lawful → {q : Parts} → partsOf body ≡ q → {d : Doc}
+      → ((p : Place) → Held (leftoverMeaning levels names) (typedUnder under levels names) body q p → orNull (placeMeaningBy (typedMeaning under) p) ≡ d)
       → placeDoc under levels names body ≡ d
-  unfolding placeVerdict verdictOf placeDoc andThen orNull placeMeaningBy
-  left-doc lawful is {d} means = go Read refl lawful
+  unfolding placeVerdict verdictOf placeDoc andThen
+  held-doc lawful is {d} means = go Read refl lawful
     where
       go : (x : Option Place) → Read ≡ x → verdictOf x (placeLawful under names) ≡ Lawful → orNull (andThen Read (placeMeaning under)) ≡ d
       go none e kept = unparsed-not kept
       go (some p) e kept =
           let held = rw is at (under-held under levels names (record { tag = 0x50; body = body }) p e) in
-          rw (e, left-held held means, meaning-parts under)
+          rw (e, meaning-parts under) (means p held)
+
+  -- A leftover alone means what the place means.
+  left-held : {d : Doc} → meaningOf levels names (part body 3 (length body)) ≡ some d
+      → (p : Place) → Held (leftoverMeaning levels names) (typedUnder under levels names) body Leftover p → orNull (placeMeaningBy (typedMeaning under) p) ≡ d
+  unfolding leftoverMeaning orNull placeMeaningBy
+  left-held {d} means p (leftHeld {d = own} read) =
+      some-injective own d (sym (given-some (leb (length (part body 3 (length body))) mostLeftover) _ read .1) ∙ means)
 
 -- ---- of a row
 
@@ -84,5 +86,6 @@ module _ {schema row table : List ℕ} {parts : RowParts} (judged : Judged schem
   unfolding rowDoc docUnder
   left-answers answers =
       let same : placeDoc (node .0) mostLevels names (outermostOf row parts) ≡ left .doc =
-      left-doc (node .0) mostLevels names (outermostOf row parts) (place-lawful judged (node .0) (node .1)) (sym is ∙ e) (left .means) in
+      held-doc (node .0) mostLevels names (outermostOf row parts) (place-lawful judged (node .0) (node .1)) (sym is ∙ e)
+      (left-held (node .0) mostLevels names (outermostOf row parts) (left .means)) in
       rw (node .1, same) (answers (left .doc) (left .means))

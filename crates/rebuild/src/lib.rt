@@ -13,11 +13,15 @@ ghost use Rattle.paper.specs.Operations.{written};
 ghost use Rattle.paper.specs.Rebuilding.{rowMeaning};
 ghost use Rattle.paper.specs.Rows.{Row, rowOf};
 ghost use Rattle.paper.specs.Schemas.{Schema, schemaOf};
+ghost use Rattle.places.specs.Parts.{partsOf};
+ghost use Rattle.places.specs.declared.parts.Parts.the-variants.{Typed};
+ghost use Rattle.rows.specs.Judging.{outermostOf};
 ghost use Rattle.rebuild.specs.Rebuilding.{Judged, rowDoc};
 use crate::rooms::with_room;
 use paper::DocumentAnswer;
 use places::Parts;
 use rows::RowParts;
+use schemas::Kind;
 
 // Numbers the names that the row uses, in tables that have an entry for each name of its dictionary.
 fn with_tables(
@@ -139,8 +143,30 @@ fn by_tables(
     for_more_names(schema, row, parts, table, metadata_out, value_out)
 }
 
+// What is typed alone: a cell uses no names, so it needs no tables.
+fn typed_alone(
+    schema: &[u8],
+    row: &[u8],
+    parts: RowParts,
+    table: &[u16],
+    metadata_out: &mut [u8],
+    value_out: &mut [u8],
+) -> DocumentAnswer
+    requires { ⌜ Judged (now schema) (now row) (now table) parts × (partsOf (outermostOf (now row) parts) ≡ Typed) ⌝ }
+    ensures { λ r. ⌜ Answered (written (rowDoc (now (schema .entry)) (now (row .entry)) parts)) (now («metadata_out» .entry)) (now («metadata_out» .exit)) (now («value_out» .entry)) (now («value_out» .exit)) r ⌝ }
+{
+    let Kind::Column(code) = schemas::kind_at(schema, 0) else {
+        return by_tables(schema, row, parts, table, metadata_out, value_out);
+    };
+    let inner = parts.middle + 3;
+    let last = row.len();
+    let outermost = &row[inner..last];
+    let to = outermost.len();
+    lone::cell(code, &outermost[3..to], metadata_out, value_out)
+}
+
 // Writes the document of a lawful row in its normal form. A row that is a leftover alone is that document, under the row's
-// metadata.
+// metadata; an empty one is a null.
 pub fn rebuild(
     schema: &[u8],
     row: &[u8],
@@ -156,15 +182,21 @@ pub fn rebuild(
     let inner = middle + 3;
     let last = row.len();
     let outermost = &row[inner..last];
-    let Parts::Leftover = places::split(outermost) else {
-        return by_tables(schema, row, parts, table, metadata_out, value_out);
-    };
-    let to = outermost.len();
-    normalise::normalise(
-        &row[3..middle],
-        parts.names,
-        &outermost[3..to],
-        metadata_out,
-        value_out,
-    )
+    let held = places::split(outermost);
+    match held {
+        Parts::Empty => lone::null(metadata_out, value_out),
+        Parts::Leftover => {
+            let to = outermost.len();
+            normalise::normalise(
+                &row[3..middle],
+                parts.names,
+                &outermost[3..to],
+                metadata_out,
+                value_out,
+            )
+        }
+        Parts::Typed => typed_alone(schema, row, parts, table, metadata_out, value_out),
+        Parts::Both(_) => by_tables(schema, row, parts, table, metadata_out, value_out),
+        Parts::Unframed => by_tables(schema, row, parts, table, metadata_out, value_out),
+    }
 }

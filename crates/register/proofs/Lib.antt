@@ -6,4 +6,5 @@ pub mod FoundLaws
 pub mod OneAnswer
 pub mod RowOutcomes
 pub mod RowAnswers
+pub mod ShredLaws
 pub mod RebuildLaws

@@ -9,6 +9,7 @@ use denote.Triple.Entry.{Args, Res}
 use Rattle.register.proofs.check as check
 use Rattle.register.proofs.find as find
 use Rattle.register.proofs.normalise as normalise
+use Rattle.register.proofs.shred as shred
 use Rattle.register.proofs.judge as judge
 use Rattle.register.proofs.rebuild as rebuild
 use Rattle.register.proofs.lot_box as lot-box
@@ -16,6 +17,7 @@ use Rattle.register.proofs.cell as cell
 use Rattle.register.proofs.tanvelis_check as tanvelis-check
 use Rattle.register.proofs.tanvelis_find as tanvelis-find
 use Rattle.register.proofs.tanvelis_normalise as tanvelis-normalise
+use Rattle.register.proofs.tanvelis_shred as tanvelis-shred
 use Rattle.register.proofs.tanvelis_judge as tanvelis-judge
 use Rattle.register.proofs.tanvelis_rebuild as tanvelis-rebuild
 use Rattle.register.proofs.tanvelis_box as tanvelis-box
@@ -41,13 +43,17 @@ OneAnswer T Post =
 settled : {A : Type 0} {answer other is : A} → answer ≡ is → other ≡ is → answer ≡ other
 settled e f = e ∙ sym f
 
+both : {A B : Type 0} {a a′ : A} {b b′ : B} → a ≡ a′ → b ≡ b′ → _≡_ {A = A × B} (a, b) (a′, b′)
+both e f = cc
+
 -- the two buffers stand behind two inputs, of which nothing is left
 two-buffers : {left left′ : Unit {0} × (Unit {0} × (List ℕ × (List ℕ × Unit {0})))} → left .1 .1 .0 ≡ left′ .1 .1 .0 → left .1 .1 .1 .0 ≡ left′ .1 .1 .1 .0
     → left ≡ left′
 two-buffers e f = both refl (both refl (both e (both f refl)))
-  where
-    both : {A B : Type 0} {a a′ : A} {b b′ : B} → a ≡ a′ → b ≡ b′ → _≡_ {A = A × B} (a, b) (a′, b′)
-    both e f = cc
+
+-- the one buffer stands behind three inputs
+one-buffer : {left left′ : Unit {0} × (Unit {0} × (Unit {0} × (List ℕ × Unit {0})))} → left .1 .1 .1 .0 ≡ left′ .1 .1 .1 .0 → left ≡ left′
+one-buffer e = both refl (both refl (both refl (both e refl)))
 
 -- ---- the operations
 
@@ -60,6 +66,9 @@ one-find κs lent answer other left left′ e f = (settled e f, refl)
 pub one-normalise : OneAnswer normalise.ended normalise.Reads.Post
 one-normalise κs lent answer other left left′ e f =
     (settled (e .answer-is) (f .answer-is), two-buffers (settled (e .metadata-is) (f .metadata-is)) (settled (e .value-is) (f .value-is)))
+
+pub one-shred : OneAnswer shred.ended shred.Reads.Post
+one-shred κs lent answer other left left′ e f = (settled (e .answer-is) (f .answer-is), one-buffer (settled (e .row-is) (f .row-is)))
 
 pub one-judge : OneAnswer judge.ended judge.Reads.Post
 one-judge κs lent answer other left left′ e f = (settled e f, refl)
@@ -85,6 +94,9 @@ one-tanvelis-find κs lent answer other left left′ e f = (settled e f, refl)
 pub one-tanvelis-normalise : OneAnswer tanvelis-normalise.ended tanvelis-normalise.Reads.Post
 one-tanvelis-normalise κs lent answer other left left′ e f =
     (settled (e .0) (f .0), two-buffers (settled (e .1) (f .1)) (settled (e .2) (f .2)))
+
+pub one-tanvelis-shred : OneAnswer tanvelis-shred.ended tanvelis-shred.Reads.Post
+one-tanvelis-shred κs lent answer other left left′ e f = (settled (e .0) (f .0), one-buffer (settled (e .1) (f .1)))
 
 pub one-tanvelis-judge : OneAnswer tanvelis-judge.ended tanvelis-judge.Reads.Post
 one-tanvelis-judge κs lent answer other left left′ e f = (settled e f, refl)

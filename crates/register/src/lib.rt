@@ -3,20 +3,24 @@
 // answer, and for a box and a cell words of their own (`words/specs/`).
 ghost use mathlib.Core.Path.{_≡_};
 ghost use mathlib.Core.Bool.{true};
+ghost use mathlib.Core.Option.{some};
 ghost use Prim.Native.Nat.{_≤_};
 ghost use lib.ListN.{length};
 ghost use Rattle.dictionary.specs.Judging.{Opened};
 ghost use Rattle.paper.specs.Bounds.{mostWalked};
-ghost use Rattle.paper.specs.Limits.{mostLevels};
+ghost use Rattle.paper.specs.Limits.{mostLevels, mostSchema};
+ghost use Rattle.paper.specs.Meaning.{Doc};
 ghost use Rattle.paper.specs.Metadata.{namesIn};
-ghost use Rattle.normalise.specs.Answered.{Answered};
+ghost use Rattle.normalise.specs.Answered.{Answered, Lent};
 ghost use Rattle.numbers.specs.Little.{putAt};
-ghost use Rattle.paper.specs.Operations.{normaliseOutcome, rebuildOutcome, documentAnswer, metadataWritten, valueWritten, checkAnswer, findAnswer, judgeAnswer, foundBy, cellAnswer, boxAnswer};
+ghost use Rattle.paper.specs.Operations.{normaliseOutcome, rowOutcome, shredOutcome, rebuildOutcome, documentAnswer, metadataWritten, valueWritten, rowAnswer, rowWritten, checkAnswer, findAnswer, judgeAnswer, foundBy, cellAnswer, boxAnswer};
 ghost use Rattle.paper.specs.Paths.{pathOf, findFrom};
 ghost use Rattle.paper.specs.Refusals.{obtain, reached};
+ghost use Rattle.paper.specs.Schemas.{schemaOf};
 ghost use Rattle.paper.specs.Values.{meaningOf};
 ghost use Rattle.paper.specs.Words.{isThere};
-ghost use Rattle.words.specs.Boundary.{checkedWord, foundWord, documentWord, documentHasRoom, cellWord, boxWord};
+ghost use Rattle.handing.specs.Handing.{RowAnswered};
+ghost use Rattle.words.specs.Boundary.{checkedWord, foundWord, documentWord, rowWord, documentHasRoom, cellWord, boxWord};
 ghost use Rattle.words.specs.BoxParts.{sideWord};
 ghost use Rattle.words.specs.CellParts.{firstWord, secondWord};
 use dictionary::Names;
@@ -27,6 +31,7 @@ use paper::Checked;
 use paper::DocumentAnswer;
 use paper::Found;
 use paper::Refusal;
+use paper::RowAnswer;
 use rows::RowJudged;
 use words::Side;
 
@@ -114,6 +119,51 @@ pub extern "C" fn tanvelis_normalise(
     ensures { λ r. ⌜ (r ≡ documentWord (documentAnswer (normaliseOutcome (now (metadata .entry)) (now (value .entry))) (length (now («metadata_out» .entry))) (length (now («value_out» .entry))))) × (now («metadata_out» .exit) ≡ putAt (now («metadata_out» .entry)) 0 (metadataWritten (normaliseOutcome (now (metadata .entry)) (now (value .entry))) (length (now («metadata_out» .entry))) (length (now («value_out» .entry))))) × (now («value_out» .exit) ≡ putAt (now («value_out» .entry)) 0 (valueWritten (normaliseOutcome (now (metadata .entry)) (now (value .entry))) (length (now («metadata_out» .entry))) (length (now («value_out» .entry))))) ⌝ }
 {
     words::document_word(normalise(metadata, value, metadata_out, value_out))
+}
+
+// ---- shred
+
+// A lawful document under a schema, which is judged behind the document.
+fn shred_lawful(
+    schema: &[u8],
+    metadata: &[u8],
+    names: Names,
+    value: &[u8],
+    row: &mut [u8],
+) -> RowAnswer
+    requires { ⌜ Lent (now metadata) names (now value) × (length (now schema) ≤ mostSchema) ⌝ }
+    ensures { λ r. ⌜ ((d : Doc) → meaningOf mostLevels (namesIn (now (metadata .entry))) (now (value .entry)) ≡ some d → RowAnswered (obtain (schemaOf (now (schema .entry))) Refusal.BadSchema λ node. rowOutcome node d) (now (row .entry)) (now (row .exit)) r) ⌝ }
+{
+    if schemas::good(schema) {
+        return shred::shred(schema, metadata, names, value, row);
+    }
+    RowAnswer::Refused(Refusal::BadSchema)
+}
+
+// Shreds a Variant under a schema: writes its row into a buffer.
+pub fn shred(schema: &[u8], metadata: &[u8], value: &[u8], row: &mut [u8]) -> RowAnswer
+    ensures { λ r. ⌜ RowAnswered (shredOutcome (now (schema .entry)) (now (metadata .entry)) (now (value .entry))) (now (row .entry)) (now (row .exit)) r ⌝ }
+{
+    if paper::MOST_SCHEMA < schema.len() {
+        return RowAnswer::Refused(Refusal::TooLong);
+    }
+    let judged = documents::judge(metadata, value);
+    match judged {
+        Document::Lawful(names) => shred_lawful(schema, metadata, names, value, row),
+        Document::Refused(refusal) => RowAnswer::Refused(refusal),
+    }
+}
+
+#[no_mangle]
+pub extern "C" fn tanvelis_shred(
+    schema: &[u8],
+    metadata: &[u8],
+    value: &[u8],
+    row: &mut [u8],
+) -> u64
+    ensures { λ r. ⌜ (r ≡ rowWord (rowAnswer (shredOutcome (now (schema .entry)) (now (metadata .entry)) (now (value .entry))) (length (now (row .entry))))) × (now (row .exit) ≡ putAt (now (row .entry)) 0 (rowWritten (shredOutcome (now (schema .entry)) (now (metadata .entry)) (now (value .entry))) (length (now (row .entry))))) ⌝ }
+{
+    words::row_word(shred(schema, metadata, value, row))
 }
 
 // ---- a row judged

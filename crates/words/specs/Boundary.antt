@@ -57,3 +57,6 @@ foundHasRoom answer = hasRoom 2 (foundCarries answer)
 
 abbrev pub documentHasRoom : DocumentAnswer → Bool
 documentHasRoom answer = hasRoom 2 (documentCarries answer)
+
+abbrev pub rowHasRoom : RowAnswer → Bool
+rowHasRoom answer = hasRoom 1 (rowCarries answer)

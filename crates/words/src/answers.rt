@@ -3,11 +3,12 @@ ghost use mathlib.Core.Path.{_≡_};
 ghost use mathlib.Core.Bool.{true, cond};
 ghost use Prim.Native.Nat.{_<_, _^_};
 ghost use Rattle.paper.specs.Answers.{Carried};
-ghost use Rattle.words.specs.Boundary.{word, wordWith, checkedWord, foundWord, documentWord, foundHasRoom, documentHasRoom};
+ghost use Rattle.words.specs.Boundary.{word, wordWith, checkedWord, foundWord, documentWord, rowWord, foundHasRoom, documentHasRoom, rowHasRoom};
 use paper::Checked;
 use paper::DocumentAnswer;
 use paper::Found;
 use paper::Refusal;
+use paper::RowAnswer;
 
 // The parts of an answer in one word: the number, whether it is present, and two lengths or values of 24 bits.
 pub fn word(number: u8, present: bool, first: usize, second: usize) -> u64
@@ -56,5 +57,17 @@ pub fn document_word(answer: DocumentAnswer) -> u64
         DocumentAnswer::Done { metadata, value } => word(0, true, metadata, value),
         DocumentAnswer::Short { metadata, value } => word(9, false, metadata, value),
         DocumentAnswer::Refused(refusal) => refused_word(refusal),
+    }
+}
+
+// The word of what shred answers: the length written, or the length needed with 9.
+pub fn row_word(answer: RowAnswer) -> u64
+    requires { ⌜ rowHasRoom answer ≡ true ⌝ }
+    ensures { λ r. ⌜ r ≡ rowWord answer ⌝ }
+{
+    match answer {
+        RowAnswer::Done(length) => word(0, true, length, 0),
+        RowAnswer::Short(length) => word(9, false, length, 0),
+        RowAnswer::Refused(refusal) => refused_word(refusal),
     }
 }

@@ -7,6 +7,7 @@ mod cells;
 pub use answers::checked_word;
 pub use answers::document_word;
 pub use answers::found_word;
+pub use answers::row_word;
 pub use boxes::Side;
 pub use boxes::box_word;
 pub use boxes::side_word;

@@ -16,13 +16,13 @@ use Rattle.paper.specs.Limits.{mostMetadata, mostSchema, mostValue, mostRow, mo
 use Rattle.paper.specs.Meaning.{Doc}
 use Rattle.paper.specs.Metadata.{dictionaryOf}
 use Rattle.paper.specs.Normal.{Document, normalForm}
-use Rattle.paper.specs.Operations.{judged, valueJudged, documentFits, checkOutcome, writable, normaliseOutcome, shredOutcome, rebuildOutcome}
+use Rattle.paper.specs.Operations.{judged, valueJudged, documentFits, checkOutcome, writable, normaliseOutcome, rowOutcome, shredOutcome, rebuildOutcome}
 use Rattle.paper.specs.Refusals.{Outcome, reached, require, obtain}
 use Rattle.paper.specs.Rows.{rowOf}
 use Rattle.paper.specs.Schemas.{Schema, schemaOf}
 use Rattle.paper.specs.Shredding.{rowBytes}
 use Rattle.paper.specs.Values.{meaningOf}
-use Rattle.paper.specs.declared.Refusal.the-variants.{TooLong, BadSchema, TooLarge}
+use Rattle.paper.specs.declared.Refusal.the-variants.{TooLong, BadSchema}
 use Rattle.schemas.proofs.GoodLaws.{schema-good}
 use Rattle.written.proofs.RowLaws.{row-back, row-rebuilt, same-row}
 use Rattle.written.specs.Fitting.{RowFits, cutRow}
@@ -38,7 +38,7 @@ pub record Shredded (schema metadata value row : List ℕ) : Type 0 where
   pub row-is : rowBytes node (document .d) ≡ row
 
 pub shredded : (schema metadata value row : List ℕ) → shredOutcome schema metadata value ≡ reached row → Shredded schema metadata value row
-unfolding shredOutcome judged valueJudged documentFits writable normalForm
+unfolding shredOutcome rowOutcome judged valueJudged documentFits writable normalForm
 shredded schema metadata value row e =
     let fitting : Bool = leb (length metadata) mostMetadata && leb (length value) mostValue in
     let first = require-reached _ (leb (length schema) mostSchema && fitting) _ e in
@@ -110,8 +110,7 @@ shred-rebuilt schema metadata value row bytes e = shredded-rebuilt (shredded sch
 unfoldable shreddedBy : List ℕ → Doc → Outcome (List ℕ)
 shreddedBy schema d =
     require (leb (length schema) mostSchema) TooLong
-    (obtain (schemaOf schema) BadSchema λ node.
-    require (writable d && leb (length (rowBytes node d)) mostRow) TooLarge (reached (rowBytes node d)))
+    (obtain (schemaOf schema) BadSchema λ node. rowOutcome node d)
 
 means-shredded : (schema metadata value : List ℕ) (d : Doc) → checkOutcome metadata value ≡ reached d → shredOutcome schema metadata value ≡ shreddedBy schema d
 unfolding checkOutcome shredOutcome shreddedBy judged valueJudged obtain

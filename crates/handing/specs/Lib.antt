@@ -1,0 +1,2 @@
+-- A document's row handed out into one lent buffer.
+pub mod Handing

@@ -1,0 +1,2 @@
+-- A document normalised into scratch.
+pub mod ScratchLaws

@@ -1,0 +1,2 @@
+-- A document to be shredded.
+pub mod Scratch
