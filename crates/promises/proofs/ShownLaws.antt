@@ -96,7 +96,7 @@ field-shown name (named own node columns) (place p ps) stop rise found =
         (here is (placeMeaning node p))
     go false is found rest = behind is (placeMeaning node p) ∙ rest found
 
-found-named : (name : List ℕ) (columns : SchemaFields) (ps : Places) (stop : Stop) → placeNamed name columns ps ≡ some stop
+pub found-named : (name : List ℕ) (columns : SchemaFields) (ps : Places) (stop : Stop) → placeNamed name columns ps ≡ some stop
     → among name (columnNames columns) ≡ true
 unfolding placeNamed columnNames among
 found-named name noColumns ps stop found = nowhere found

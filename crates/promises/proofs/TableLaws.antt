@@ -6,13 +6,13 @@ use mathlib.Core.Option.{Option, none, some}
 use mathlib.Core.Path.{_≡_, refl, sym, ap, _∙_}
 use Prim.Native.Nat.{ℕ, _≤_, _<_}
 use native.Mathlib.Omega.{arith}
-use borrow.Author.Tests.{ltb-true, ne-eqb, eq-eqb, leb-true, leb-false, lt-ltb, le-ltb}
+use borrow.Author.Tests.{ltb-true, ltb-false, ne-eqb, eq-eqb, eqb-true, eqb-false, leb-true, leb-false, lt-ltb, le-ltb}
 use lib.Dec.{leb, ltb, eqb}
 use Rattle.paper.specs.Refusals.{Outcome, refused, reached, require, obtain, refusalNumber}
 use Rattle.paper.specs.Words.{isThere}
 use Rattle.paper.specs.declared.Refusal.{Refusal}
 use Rattle.paper.proofs.WordLaws.{never, and-both}
-use Rattle.promises.specs.Tables.{Line, _when_, condition, GivenExactly}
+use Rattle.promises.specs.Tables.{Line, _when_, condition, GivenExactly, One-Number}
 
 -- ---- the first line that holds
 
@@ -60,6 +60,27 @@ first-given from (line ∷ more) rises =
           no-lower = λ k h. passed line more k is ∙ rest .no-lower k h;
           none-holds = λ e k. passed line more k is ∙ rest .none-holds e k;
         }
+
+-- No number below another is given with it.
+none-below : (table : List Line) (a b : ℕ) → GivenExactly table a → GivenExactly table b → a < b → ⊥
+none-below table a b given-a given-b h = go (eqb a 0) refl
+  where
+    go : (zero-is : Bool) → eqb a 0 ≡ zero-is → ⊥
+    go true e =
+        let own : condition table b ≡ true = given-b .own-holds (λ f. omega arith) in
+        never (sym own ∙ given-a .none-holds (eqb-true a 0 e) b)
+    go false e = never (sym (given-a .own-holds (eqb-false a 0 e)) ∙ given-b .no-lower a h)
+
+pub one-number : One-Number
+one-number table a b given-a given-b = go (ltb a b) (ltb b a) refl refl
+  where
+    go : (p q : Bool) → ltb a b ≡ p → ltb b a ≡ q → a ≡ b
+    go true q e f = absurd (none-below table a b given-a given-b (ltb-true a b e))
+    go false true e f = absurd (none-below table b a given-b given-a (ltb-true b a f))
+    go false false e f =
+        let up = ltb-false a b e in
+        let down = ltb-false b a f in
+        omega arith
 
 -- ---- what an operation comes to, as a number: its refusal's, or that of what it reached
 

@@ -7,4 +7,5 @@ pub mod Walking
 pub mod Columns
 pub mod OneRow
 pub mod Screens
+pub mod Finding
 pub mod ShutOut

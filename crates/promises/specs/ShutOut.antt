@@ -24,7 +24,7 @@ use Rattle.promises.specs.Done.{Bytes, Means, Shreds}
 
 -- ---- refusing everything. `AnyBytes.antt` says that each refusal is given exactly when its condition holds; and:
 -- (`register/check_refuses_everything`, `documents/value_limit_one_low`, `cells/cell_of_full_size_refused`,
--- `paths/no_name_is_found`, `boxes/box_always_absent`)
+-- `handing/a_row_of_full_size_refused`, `paths/no_name_is_found`, `boxes/box_always_absent`)
 
 -- Every document is accepted: scalars of their types and sizes, names that rise, at most 16 levels (`wellFormed`), written in
 -- normal form within the limits, are read as that document.
@@ -126,7 +126,7 @@ abbrev pub Encodings-One-Row : Type 0
 Encodings-One-Row = allHold encodings
 
 -- ---- everything left over: under a column, a value of the column's type is typed, and nothing is left over beside it.
--- (`paper/everything_left_over`)
+-- (`paper/everything_left_over`; named fields left over too: `remainder/named_members_left`)
 abbrev pub Not-Left-Over : Type 0
 Not-Left-Over =
     (schema metadata value row : List ℕ) (room : ℕ) → Bytes metadata → Shreds schema metadata value room row
@@ -135,7 +135,8 @@ Not-Left-Over =
     → (hasTyped (parsed .outermost) ≡ true) × (hasLeftover (parsed .outermost) ≡ false)
 
 -- ---- done with nothing written, or an invented length: what stands first in the buffer is the row of the document under the
--- schema, and the length is its length. (`writing/nothing_written`, `naming/size_without_the_last_offset`)
+-- schema, and the length is its length. (`handing/done_with_nothing_written`, `handing/needed_without_the_metadata`,
+-- `shred/too_large_is_done`; of normalise `writing/nothing_written`, `naming/size_without_the_last_offset`)
 abbrev pub Done-Row-Written : Type 0
 Done-Row-Written =
     (schema metadata value before : List ℕ) (size : ℕ) → rowAnswer (shredOutcome schema metadata value) (length before) ≡ RowAnswer.Done size

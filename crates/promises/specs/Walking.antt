@@ -1,12 +1,14 @@
 -- Words that demands 2 and 4 share: from a row's outermost place along a path of names and indexes, and along the schema with it.
-use mathlib.Core.Bool.{cond}
+use mathlib.Core.Bool.{Bool, true, cond}
 use mathlib.Core.List.{List, [], _∷_}
 use mathlib.Core.Option.{Option, none, some}
+use mathlib.Core.Path.{_≡_}
 use Prim.Native.Nat.{ℕ, zero, suc}
 use Rattle.paper.specs.Rows.{Place, empty, leftover, typed, both, Typed, cell, inner, Places, noPlaces, place}
-use Rattle.paper.specs.Schemas.{Schema, leftoverOnly, column, list, fields, SchemaFields, noColumns, named}
+use Rattle.paper.specs.Schemas.{Schema, leftoverOnly, column, list, fields, SchemaFields, noColumns, named, schemaOf}
 use Rattle.paper.specs.Standing.{Step, byName, byIndex}
 use Rattle.paper.specs.Words.{same, andThen}
+use Rattle.written.specs.Everywhere.{everywhere}
 
 -- A place, and the node that it stands under.
 pub record Stop : Type 0 where
@@ -50,3 +52,11 @@ stepTo (fields columns) p (byIndex index) = none
 unfoldable pub placeAt : Schema → Place → List Step → Option Stop
 placeAt node p [] = some (record { node = node; held = p })
 placeAt node p (step ∷ more) = andThen (stepTo node p step) λ next. placeAt (next .node) (next .held) more
+
+-- Every place is reached: under a good schema, what holds wherever a path leads holds at a place and at all inside it. So 'at every
+-- place, at any depth' may be said by paths.
+abbrev pub Every-Place-Reached : Type 0
+Every-Place-Reached =
+    (test : Schema → Place → Bool) (schema : List ℕ) (node : Schema) (p : Place) → schemaOf schema ≡ some node
+    → ((path : List Step) (stop : Stop) → placeAt node p path ≡ some stop → test (stop .node) (stop .held) ≡ true)
+    → everywhere test node p ≡ true
