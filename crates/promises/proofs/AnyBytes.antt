@@ -2,9 +2,9 @@
 use mathlib.Core.Bool.{Bool, true, false, cond, not, _&&_, _||_}
 use mathlib.Core.List.{List, [], _∷_}
 use mathlib.Core.Option.{Option, none, some}
-use mathlib.Core.Path.{_≡_, refl, sym, ap, _∙_}
-use Prim.Native.Nat.{ℕ, _≤_, _<_}
-use lib.Dec.{leb, ltb}
+use mathlib.Core.Path.{_≡_, refl, _∙_}
+use Prim.Native.Nat.{ℕ}
+use lib.Dec.{leb}
 use lib.ListN.{length}
 use Rattle.paper.specs.Answers.{numberOf, checkedCarries, foundCarries, documentCarries, rowCarries, cellCarries, boxCarries}
 use Rattle.paper.specs.Cells.{cellMeaning}
@@ -15,7 +15,7 @@ use Rattle.paper.specs.Normal.{Document, normalForm}
 use Rattle.paper.specs.Operations.{judged, valueJudged, documentFits, checkOutcome, checkedBy, checkAnswer, findOutcome, foundBy, findAnswer, written, writable, documentRoom, documentAnswer, normaliseOutcome, rowOutcome, shredOutcome, rowAnswer, rowJudged, judgeAnswer, rebuildOutcome, cellOutcome, cellReadBy, cellAnswer, boxOutcome, boxReadBy, boxAnswer}
 use Rattle.paper.specs.Paths.{pathOf}
 use Rattle.paper.specs.Rebuilding.{rowMeaning}
-use Rattle.paper.specs.Refusals.{Outcome, refused, reached, require, obtain}
+use Rattle.paper.specs.Refusals.{Outcome, refused, reached}
 use Rattle.paper.specs.Rows.{Row, rowOf}
 use Rattle.paper.specs.Rules.{rowLawful}
 use Rattle.paper.specs.Schemas.{Schema, schemaOf, columnOf}
@@ -29,7 +29,7 @@ use Rattle.paper.specs.declared.RowAnswer.{RowAnswer}
 use Rattle.paper.specs.declared.Refusal.the-variants.{TooLong, BadMetadata, BadValue, BadSchema, BadPath, BadRow, BrokenRule, TooLarge}
 use Rattle.promises.specs.Tables.{Line, _when_, GivenExactly, ofIt}
 use Rattle.promises.specs.AnyBytes.{longer, documentTooLong, metadataBroken, valueBroken, schemaBroken, codeBroken, pathBroken, rowUnparsed, cellBroken, ruleBroken, documentOf, rebuiltOf, normalTooLarge, rowLonger, buffersShort, checkTable, findTable, normaliseTable, shredTable, rebuildTable, judgeTable, cellTable, boxTable, Check-Exactly-When, Find-Exactly-When, Normalise-Exactly-When, Shred-Exactly-When, Rebuild-Exactly-When, Judge-Exactly-When, Cell-Exactly-When, Box-Exactly-When}
-use Rattle.promises.proofs.TableLaws.{first, rise, first-given, comesTo, Gives, require-line, obtain-line, nothing-left, last-line, longer-not, either-not}
+use Rattle.promises.proofs.TableLaws.{rise, first-given, comesTo, Gives, require-line, obtain-line, nothing-left, last-line, longer-not, either-not}
 
 -- ---- inputs too long, and a lent document judged
 

@@ -1,8 +1,8 @@
 -- Demand 1, the lent buffers, shown: by whether what was reached has room.
 use mathlib.Core.Bool.{Bool, true, false, cond, not, _&&_, _||_}
-use mathlib.Core.List.{List, []}
-use mathlib.Core.Path.{_≡_, refl, sym, ap, _∙_}
-use Prim.Native.Nat.{ℕ, _+_, _≤_}
+use mathlib.Core.List.{List}
+use mathlib.Core.Path.{_≡_, refl, ap, _∙_}
+use Prim.Native.Nat.{ℕ, _+_}
 use native.Mathlib.Nat.{zero-add}
 use native.Mathlib.Omega.{arith}
 use borrow.Author.Tests.{leb-true}
@@ -14,7 +14,7 @@ use Rattle.numbers.proofs.PutLaws.{put-none, length-put}
 use Rattle.paper.specs.Answers.{done, absent, refusal, short, numberOf, documentCarries, rowCarries}
 use Rattle.paper.specs.Normal.{Document}
 use Rattle.paper.specs.Operations.{documentAnswer, documentRoom, metadataWritten, valueWritten, rowAnswer, rowWritten}
-use Rattle.paper.specs.Refusals.{Outcome, refused, reached, refusalNumber}
+use Rattle.paper.specs.Refusals.{refused, reached}
 use Rattle.paper.specs.declared.DocumentAnswer.{DocumentAnswer}
 use Rattle.paper.specs.declared.RowAnswer.{RowAnswer}
 use Rattle.paper.proofs.WordLaws.{and-both}

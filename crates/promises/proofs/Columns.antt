@@ -1,23 +1,21 @@
 -- Demand 2 shown: by the laws of what a document is cut into (`written`), at the place that a path leads to.
-use mathlib.Core.Bool.{Bool, true, false, not, _&&_, _||_}
+use mathlib.Core.Bool.{Bool, true, false, not, _||_}
 use mathlib.Core.List.{List}
-use mathlib.Core.Option.{Option, none, some, Option·some-injective as some-injective}
+use mathlib.Core.Option.{Option, some, Option·some-injective as some-injective}
 use mathlib.Core.Path.{_≡_, refl, sym, ap, _∙_}
 use Prim.Native.Nat.{ℕ, _≤_}
 use borrow.Author.Tests.{le-leb, not-true}
-use lib.Dec.{leb}
 use lib.ListN.{length}
-use Rattle.forms.proofs.NormalLaws.{Accepted, accepts, accepted-means, same-reached}
+use Rattle.forms.proofs.NormalLaws.{accepts, accepted-means, same-reached}
 use Rattle.paper.proofs.WordLaws.{never, and-both}
-use Rattle.paper.specs.Answers.{numberOf, documentCarries}
 use Rattle.paper.specs.Limits.{mostSchema, mostRow, mostLevels}
 use Rattle.paper.specs.Meaning.{Doc, null, scalar, array, object}
 use Rattle.paper.specs.Metadata.{Dictionary}
 use Rattle.paper.specs.Normal.{namesUsed}
 use Rattle.paper.specs.Operations.{normaliseOutcome, shredOutcome, rowJudged, rebuildOutcome, documentAnswer}
 use Rattle.paper.specs.Rebuilding.{placeMeaningBy, cellDoc, placeMeaning}
-use Rattle.paper.specs.Refusals.{refused, reached, require, obtain}
-use Rattle.paper.specs.Rows.{Place, empty, leftover, typed, both, Typed, cell, inner, Row, rowOf}
+use Rattle.paper.specs.Refusals.{refused, require, obtain}
+use Rattle.paper.specs.Rows.{Place, empty, leftover, typed, both, cell, inner, Row, rowOf}
 use Rattle.paper.specs.Rules.{hasTyped, hasLeftover, leftoverOf, isObject, isFieldsNode, hasAny, breaksA, breaksB, breaksC, breaksD, placeLawful, rowLawful}
 use Rattle.paper.specs.Schemas.{Column, Schema, column, fields, SchemaFields, columnNames, schemaOf}
 use Rattle.paper.specs.Shredding.{cut}
@@ -30,13 +28,13 @@ use Rattle.written.proofs.RowLaws.{row-lawful}
 use Rattle.written.proofs.ShredLaws.{Shredded, shredded, shredded-fits, shredded-back, shred-rebuilt}
 use Rattle.written.specs.Everywhere.{takesDoc, cellTaken, columnKept, columnRule}
 use Rattle.written.specs.Fitting.{cutRow}
-use Rattle.promises.specs.Columns.{ReadBack, Row-Reads-Back, Columns-Typed, Leftovers-Unnamed, Named-Leftover-Refused, Restored, Row-Restored}
+use Rattle.promises.specs.Columns.{Row-Reads-Back, Columns-Typed, Leftovers-Unnamed, Named-Leftover-Refused, Row-Restored}
 use Rattle.promises.specs.Done.{Bytes, Means, Shreds}
 use Rattle.promises.specs.Tables.{ofIt}
 use Rattle.promises.specs.Walking.{Stop, placeAt}
 use Rattle.promises.proofs.DoneLaws.{reached-document, row-reached}
 use Rattle.promises.proofs.ShownLaws.{shown-at, beside-unnamed}
-use Rattle.promises.proofs.WalkingLaws.{or-none, own-kept, everywhere-at, lawful-at}
+use Rattle.promises.proofs.WalkingLaws.{own-kept, everywhere-at, lawful-at}
 
 -- ---- what is written is read back
 

@@ -1,8 +1,8 @@
 -- Demand 4, the two screens as operations, shown: find goes with the meaning, and the meaning with the places.
-use mathlib.Core.Bool.{Bool, true, _&&_}
+use mathlib.Core.Bool.{true, _&&_}
 use mathlib.Core.List.{List}
-use mathlib.Core.Option.{Option, none, some}
-use mathlib.Core.Path.{_≡_, refl, sym, ap, _∙_}
+use mathlib.Core.Option.{Option, some}
+use mathlib.Core.Path.{_≡_, ap, _∙_}
 use Prim.Native.Nat.{ℕ, _+_, _-_, _≤_}
 use native.Mathlib.Omega.{arith}
 use borrow.Author.Tests.{leb-true, le-leb}
@@ -15,10 +15,8 @@ use Rattle.paper.specs.Limits.{mostMetadata, mostValue, mostPath, mostLevels}
 use Rattle.paper.specs.Meaning.{Doc}
 use Rattle.paper.specs.Metadata.{Dictionary, dictionaryOf}
 use Rattle.paper.specs.Operations.{documentFits, judged, valueJudged, checkOutcome, findOutcome, foundBy, findAnswer}
-use Rattle.paper.specs.Paths.{pathOf, findFrom}
 use Rattle.paper.specs.Rebuilding.{rowMeaning}
 use Rattle.paper.specs.Refusals.{reached, require, obtain}
-use Rattle.paper.specs.Standing.{Step, standsAt}
 use Rattle.paper.specs.Values.{Child, childBytes, meaningOf}
 use Rattle.paper.specs.Words.{part}
 use Rattle.promises.specs.Done.{Means}

@@ -1,9 +1,6 @@
 -- Demand 3 shown: by the laws of what shred writes (`written`) and of normal form (`forms`), wherever the buffers are long enough.
-use mathlib.Core.List.{List}
-use mathlib.Core.Path.{_≡_, refl, sym, ap, _∙_}
-use Prim.Native.Nat.{ℕ}
+use mathlib.Core.Path.{sym, _∙_}
 use Rattle.forms.proofs.NormalLaws.{normal-again, same-meaning}
-use Rattle.paper.specs.Normal.{Document}
 use Rattle.paper.specs.Operations.{normaliseOutcome, shredOutcome, rebuildOutcome}
 use Rattle.written.proofs.ShredLaws.{shred-rebuilt, shred-again, same-shredded}
 use Rattle.promises.specs.OneRow.{Same-Row-Same-Meaning, One-Document, Rebuilt-Normal, Row-Again, Normal-Again, Same-Form-Same-Meaning}

@@ -20,12 +20,12 @@ use Rattle.paper.specs.Framing.{Piece, piecesOf}
 use Rattle.paper.specs.Limits.{mostMetadata, mostSchema, mostRow, mostValue, mostLevels}
 use Rattle.paper.specs.Meaning.{Doc}
 use Rattle.paper.specs.Metadata.{Dictionary, dictionaryOf}
-use Rattle.paper.specs.Normal.{namesUsed, metadataBytes, Document, normalForm}
+use Rattle.paper.specs.Normal.{namesUsed, Document, normalForm}
 use Rattle.paper.specs.Operations.{checkOutcome, documentFits, judged, valueJudged, writable, written, normaliseOutcome, rowJudged, rebuildOutcome}
 use Rattle.paper.specs.Rebuilding.{orNull, placeMeaning, rowMeaning}
 use Rattle.paper.specs.Refusals.{reached, require, obtain}
-use Rattle.paper.specs.Rows.{Place, Row, placeUnder, rowParts, rowOf}
-use Rattle.paper.specs.Rules.{placeLawful, rowLawful}
+use Rattle.paper.specs.Rows.{Row, placeUnder, rowParts, rowOf}
+use Rattle.paper.specs.Rules.{rowLawful}
 use Rattle.paper.specs.Schemas.{Schema, schemaOf}
 use Rattle.schemas.proofs.GoodLaws.{schema-good}
 use Rattle.schemas.specs.Written.{goodSchema}

@@ -6,7 +6,7 @@ use mathlib.Core.Path.{_≡_, refl, sym, ap, _∙_}
 use Prim.Native.Nat.{ℕ}
 use Rattle.forms.proofs.NormalLaws.{same-reached}
 use Rattle.paper.specs.Limits.{mostLevels}
-use Rattle.paper.specs.Meaning.{Doc, null}
+use Rattle.paper.specs.Meaning.{Doc}
 use Rattle.paper.specs.Metadata.{Dictionary}
 use Rattle.paper.specs.Normal.{Document}
 use Rattle.paper.specs.Operations.{rebuildOutcome}

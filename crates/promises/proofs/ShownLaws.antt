@@ -6,22 +6,21 @@ use mathlib.Core.Option.{Option, none, some, Option·some-injective as some-inje
 use mathlib.Core.Path.{_≡_, refl, sym, ap, _∙_}
 use Prim.Native.Nat.{ℕ, zero, suc, _-_}
 use borrow.Author.Tests.{not-true}
-use Rattle.clashes.proofs.SharedLaws.{same-sym}
 use Rattle.names.proofs.RisingLaws.{rising-more, rising-once}
-use Rattle.names.proofs.SameLaws.{same-refl, same-is}
+use Rattle.names.proofs.SameLaws.{same-is}
 use Rattle.order.proofs.OrderLaws.{equal-same}
 use Rattle.order.specs.declared.Order.{Order}
 use Rattle.order.specs.declared.Order.the-variants.{Less, Equal, Greater}
 use Rattle.order.specs.Before.{orderOf}
-use Rattle.paper.proofs.WordLaws.{never, some-there, then-some, and-both}
-use Rattle.paper.specs.Meaning.{Doc, null, scalar, array, object, Docs, noDocs, doc, Fields, noFields, field}
+use Rattle.paper.proofs.WordLaws.{never, then-some, and-both}
+use Rattle.paper.specs.Meaning.{Doc, null, scalar, array, object, Fields, noFields, field}
 use Rattle.paper.specs.Metadata.{Dictionary, rising}
-use Rattle.paper.specs.Rebuilding.{insertFieldBy, insertField, merge, fieldsIn, orNull, placeMeaningBy, cellDoc, innerDoc, listMeaning, addField, placeMeaning, fieldsMeaning}
+use Rattle.paper.specs.Rebuilding.{insertFieldBy, insertField, merge, fieldsIn, orNull, placeMeaningBy, innerDoc, listMeaning, addField, placeMeaning, fieldsMeaning}
 use Rattle.paper.specs.Rows.{Place, empty, leftover, typed, both, Typed, cell, inner, Places, noPlaces, place}
-use Rattle.paper.specs.Rules.{hasLeftover, hasTyped, leftoverOf, isFieldsNode, namedBy, anyNamed, hasAny, breaksA, breaksB, breaksC, breaksD, breaksE, elementsLawful, placeLawful}
+use Rattle.paper.specs.Rules.{hasLeftover, hasTyped, leftoverOf, isFieldsNode, namedBy, anyNamed, hasAny, breaksA, breaksB, breaksC, breaksE, elementsLawful, placeLawful}
 use Rattle.paper.specs.Schemas.{Schema, leftoverOnly, column, list, fields, SchemaFields, noColumns, named, columnNames}
 use Rattle.paper.specs.Standing.{Step, byName, byIndex, fieldAt, elementAt, stepFrom, standsAt}
-use Rattle.paper.specs.Words.{isThere, andThen, same, among}
+use Rattle.paper.specs.Words.{andThen, same, among}
 use Rattle.schemas.proofs.GoodLaws.{good-element, good-object, good-field}
 use Rattle.schemas.specs.Written.{goodSchema, goodFields}
 use Rattle.promises.specs.Walking.{Stop, innerIn, innerOf, placeNumber, placeNamed, stepTo, placeAt}

@@ -1,13 +1,12 @@
 -- Demand 5 shown: from the demands before it, and by computing.
-use mathlib.Core.Bool.{Bool, true, false, not}
-use mathlib.Core.List.{List, []}
+use mathlib.Core.Bool.{true, false}
+use mathlib.Core.List.{List}
 use mathlib.Core.Option.{some, Option·some-injective as some-injective}
 use mathlib.Core.Path.{_≡_, refl, sym, ap, _∙_}
 use Prim.Native.Nat.{ℕ}
 use lib.ListN.{length, take}
 use Rattle.forms.proofs.NormalLaws.{accepted-means, accepted-written, same-reached, require-reached}
 use Rattle.paper.proofs.WordLaws.{never}
-use Rattle.paper.specs.Answers.{presentOf}
 use Rattle.paper.specs.Lots.{allHold}
 use Rattle.paper.specs.Meaning.{Doc, null, scalar, array, object}
 use Rattle.paper.specs.Normal.{Document, normalForm}
@@ -16,7 +15,7 @@ use Rattle.paper.specs.Refusals.{Outcome}
 use Rattle.paper.specs.Running.{running}
 use Rattle.paper.specs.Rows.{rowOf}
 use Rattle.paper.specs.Rules.{hasTyped, hasLeftover}
-use Rattle.paper.specs.Schemas.{Column, Schema, column, schemaOf}
+use Rattle.paper.specs.Schemas.{Column, column}
 use Rattle.paper.specs.Shredding.{cut, rowBytes}
 use Rattle.written.proofs.ColumnLaws.{taken-typed}
 use Rattle.written.proofs.ShredLaws.{Shredded, shredded}

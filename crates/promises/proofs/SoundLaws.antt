@@ -7,7 +7,7 @@ use mathlib.Core.Option.{Option, none, some, Option·some-injective as some-inje
 use mathlib.Core.Path.{_≡_, refl, sym, ap, _∙_}
 use Prim.Native.Nat.{ℕ, zero, suc, _-_, _≤_}
 use native.Mathlib.Omega.{arith}
-use borrow.Author.Tests.{eqb-true, leb-true, leb-false, le-leb, lt-leb, ne-eqb, eq-eqb, eqb-false}
+use borrow.Author.Tests.{eqb-true, leb-true, le-leb, lt-leb}
 use lib.Dec.{leb, eqb}
 use lib.ListN.{length, getD}
 use Rattle.forms.proofs.WellFormedLaws.{decoded-well-formed, decoded-names-there}
@@ -18,19 +18,19 @@ use Rattle.order.proofs.OrderLaws.{equal-same}
 use Rattle.order.specs.Before.{orderOf}
 use Rattle.order.specs.declared.Order.{Order}
 use Rattle.order.specs.declared.Order.the-variants.{Less, Equal, Greater}
-use Rattle.paper.proofs.WordLaws.{never, given-some, then-some, and-both}
-use Rattle.paper.specs.Cells.{BodyKind, yesNo, string, binary, sized, bodyKind, cellBy, cellMeaning}
+use Rattle.paper.proofs.WordLaws.{given-some, then-some, and-both}
+use Rattle.paper.specs.Cells.{yesNo, string, binary, sized, bodyKind, cellBy, cellMeaning}
 use Rattle.paper.specs.FirstBytes.{payloadSizes}
 use Rattle.paper.specs.Framing.{Piece, piecesOf}
 use Rattle.paper.specs.Limits.{mostLeftover}
-use Rattle.paper.specs.Meaning.{Scalar, boolean, payload, text, textMeaning, Doc, null, scalar, array, object, Docs, noDocs, doc, Fields, noFields, field}
+use Rattle.paper.specs.Meaning.{Scalar, payload, textMeaning, Doc, null, scalar, array, object, Docs, doc, Fields, noFields, field}
 use Rattle.paper.specs.Metadata.{Dictionary, rising}
 use Rattle.paper.specs.Normal.{insertBy, insertName, fieldNames}
 use Rattle.paper.specs.Rebuilding.{insertFieldBy, insertField, merge, fieldsIn, orNull, placeMeaningBy, cellDoc, innerDoc, listMeaning, addField, placeMeaning, fieldsMeaning}
-use Rattle.paper.specs.Rows.{Place, empty, leftover, typed, both, Typed, cell, inner, Places, noPlaces, place, leftoverMeaning, noBody, cellBody, innerBody, listPlaces, placeUnder, fieldPlaces}
+use Rattle.paper.specs.Rows.{Place, empty, leftover, typed, both, Typed, inner, Places, noPlaces, place, leftoverMeaning, noBody, cellBody, innerBody, listPlaces, placeUnder, fieldPlaces}
 use Rattle.paper.specs.Rules.{hasLeftover, hasTyped, breaksE, breaksF, innerLawful, elementsLawful, placeLawful, fieldsLawful}
 use Rattle.paper.specs.Schemas.{Column, Schema, leftoverOnly, column, list, fields, SchemaFields, noColumns, named, columnNames, columnCode}
-use Rattle.paper.specs.Words.{at, given, andThen, same, among}
+use Rattle.paper.specs.Words.{at, same, among}
 use Rattle.places.specs.declared.parts.Parts.{Parts}
 use Rattle.places.specs.Verdicts.{typedUnder, typedLawful}
 use Rattle.rebuilt.proofs.HeldLaws.{Held, nothingHeld, leftHeld, typedHeld, bothHeld, under-held, present-named, typed-keeps, both-keep}

@@ -1,7 +1,7 @@
 -- Every place is reached by a path, shown: over the node. A name leads to its own field, as the names of a node differ.
-use mathlib.Core.Bool.{Bool, true, false, cond, _&&_}
+use mathlib.Core.Bool.{Bool, true, false, cond}
 use mathlib.Core.List.{List, [], _∷_}
-use mathlib.Core.Option.{none, some}
+use mathlib.Core.Option.{some}
 use mathlib.Core.Path.{_≡_, refl, sym, ap, _∙_}
 use Prim.Native.Nat.{ℕ, zero, suc, _-_}
 use Rattle.names.proofs.RisingLaws.{rising-more, rising-once}
@@ -9,7 +9,7 @@ use Rattle.names.proofs.SameLaws.{same-refl, same-is}
 use Rattle.paper.proofs.WordLaws.{never}
 use Rattle.paper.specs.Limits.{mostLevels}
 use Rattle.paper.specs.Metadata.{rising}
-use Rattle.paper.specs.Rows.{Place, empty, leftover, typed, both, Typed, cell, inner, Places, noPlaces, place}
+use Rattle.paper.specs.Rows.{Place, empty, leftover, typed, both, cell, inner, Places, noPlaces, place}
 use Rattle.paper.specs.Rules.{insideLawful, innerLawful}
 use Rattle.paper.specs.Schemas.{Schema, leftoverOnly, column, list, fields, SchemaFields, noColumns, named, columnNames}
 use Rattle.paper.specs.Standing.{Step, byName, byIndex}
@@ -19,7 +19,6 @@ use Rattle.schemas.specs.Written.{goodSchema, goodFields}
 use Rattle.written.specs.Everywhere.{everyElement, everywhere, everyField}
 use Rattle.promises.specs.Walking.{Stop, innerIn, innerOf, placeNumber, placeNamed, stepTo, placeAt, Every-Place-Reached}
 use Rattle.promises.proofs.ShownLaws.{found-named}
-use Rattle.promises.proofs.WalkingLaws.{nowhere}
 
 -- What holds of the inner places of a place holds of what is typed in it.
 inner-inside : (All : Places → Bool) (p : Place) → All (innerOf p) ≡ true → insideLawful (innerLawful All) p ≡ true

@@ -2,7 +2,7 @@
 -- that a place breaks no rule.
 use mathlib.Core.Bool.{Bool, true, false, cond, not, _&&_, _||_}
 use mathlib.Core.List.{List, [], _∷_}
-use mathlib.Core.Option.{Option, none, some, Option·some-injective as some-injective}
+use mathlib.Core.Option.{none, some, Option·some-injective as some-injective}
 use mathlib.Core.Path.{_≡_, refl, sym, subst}
 use Prim.Native.Nat.{ℕ, zero, suc}
 use borrow.Author.Tests.{not-true}
@@ -12,7 +12,7 @@ use Rattle.paper.specs.Rows.{Place, empty, leftover, typed, both, Typed, cell, 
 use Rattle.paper.specs.Rules.{breaksA, breaksB, breaksC, breaksD, breaksE, breaksF, insideLawful, innerLawful, placeLawfulBy, elementsLawful, placeLawful, fieldsLawful}
 use Rattle.paper.specs.Schemas.{Schema, leftoverOnly, column, list, fields, SchemaFields, noColumns, named}
 use Rattle.paper.specs.Standing.{Step, byName, byIndex}
-use Rattle.paper.specs.Words.{isThere, andThen, same}
+use Rattle.paper.specs.Words.{isThere, same}
 use Rattle.written.specs.Everywhere.{everyElement, everywhere, everyField}
 use Rattle.promises.specs.Walking.{Stop, innerIn, innerOf, placeNumber, placeNamed, stepTo, placeAt}
 

@@ -18,7 +18,7 @@ use Rattle.paper.specs.Standing.{Step, standsAt}
 use Rattle.written.specs.Everywhere.{takesDoc}
 use Rattle.promises.specs.Done.{Bytes, Means, Normalises, Shreds, Rebuilds, LongEnough}
 use Rattle.promises.specs.Tables.{ofIt}
-use Rattle.promises.specs.Walking.{Stop, placeAt}
+use Rattle.promises.specs.Walking.{placeAt}
 
 -- What shred accepts: a good schema and a document that is meant. The row that is written parses under that schema, and its places
 -- are the cut of that document along it: what is written is read back, place by place.

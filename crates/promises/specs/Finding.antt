@@ -1,5 +1,5 @@
 -- Demand 4, the two screens as operations: one that shows a column, and one that asks find of the rebuilt document.
-use mathlib.Core.List.{List, [], _∷_}
+use mathlib.Core.List.{List}
 use mathlib.Core.Option.{Option, none, some}
 use mathlib.Core.Path.{_≡_}
 use Prim.Native.Nat.{ℕ, _+_, _≤_}
