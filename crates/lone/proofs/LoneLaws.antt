@@ -21,7 +21,6 @@ use Rattle.paper.specs.Operations.{written}
 use Rattle.paper.specs.Schemas.{columnCode}
 use Rattle.paper.specs.Words.{at, joined}
 use Rattle.paper.specs.declared.DocumentAnswer.the-variants.{Done, Short, Refused}
-use Rattle.paper.specs.declared.DocumentAnswer.{DocumentAnswer}
 use Rattle.paper.specs.declared.Refusal.the-variants.{TooLarge}
 use Rattle.rebuilt.proofs.CellLaws.{cell-is}
 use Rattle.rebuilt.specs.Rebuilt.{cellValue}

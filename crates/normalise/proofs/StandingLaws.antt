@@ -1,86 +1,92 @@
--- A long string or binary is its own normal form, so it is handed out as it stands.
-use mathlib.Core.Bool.{Bool, true, false, _&&_, _||_, and-false}
-use mathlib.Core.List.{List}
-use mathlib.Core.Logic.{_⊎_, inl, inr}
-use mathlib.Core.Option.{some, Option·some-injective as some-injective}
+-- A scalar that is its own normal form: by its first byte, and that it is handed out as it stands, without names.
+use mathlib.Core.Bool.{Bool, true, false, cond, _&&_, and-false}
+use mathlib.Core.List.{List, []}
+use mathlib.Core.Option.{some}
 use mathlib.Core.Path.{_≡_, refl, sym, ap, _∙_}
-use Prim.Native.Nat.{ℕ, _-_, _≤_, _<_}
+use Prim.Native.Nat.{ℕ, _-_, _/_, _%_, _≤_, _<_}
 use native.Mathlib.Omega.{arith}
-use borrow.Author.Tests.{le-ltb, lt-ltb, lt-leb, ltb-true, eq-eqb, ne-eqb, eqb-true}
-use lib.Dec.{ltb, eqb}
-use lib.ListN.{length}
+use borrow.Author.Tests.{le-leb, lt-leb, ne-eqb, ltb-true}
+use lib.Dec.{leb, ltb, eqb}
+use lib.ListN.{length, getD}
 use Rattle.dictionary.specs.declared.Names.{Names}
-use Rattle.naming.specs.Chosen.{chosenNames}
-use Rattle.normalise.specs.Answered.{Answered, Numbered, standing}
+use Rattle.marking.proofs.UsedIdLaws.{ids-used}
+use Rattle.marking.specs.Ids.{idsBy, idsIn, holds}
+use Rattle.names.proofs.UsedLaws.{names-are}
+use Rattle.names.specs.Used.{usedIn}
+use Rattle.naming.specs.Chosen.{chosenNames, Chosen}
+use Rattle.normalise.specs.Answered.{Answered, Lent, Standing}
+use Rattle.paper.proofs.WordLaws.{never}
 use Rattle.paper.specs.FirstBytes.{lengthPrefixed, payloadSizes, primitiveReading, kindReading, readingOf}
 use Rattle.paper.specs.Limits.{mostLevels}
 use Rattle.paper.specs.Meaning.{Doc}
-use Rattle.paper.specs.Metadata.{namesIn}
+use Rattle.paper.specs.Metadata.{rising, namesIn}
 use Rattle.paper.specs.Normal.{namesUsed, normalForm}
 use Rattle.paper.specs.Operations.{written}
-use Rattle.paper.specs.Values.{meaningOf}
-use Rattle.paper.specs.Words.{at}
+use Rattle.paper.specs.Values.{meaningOf, namesAt}
+use Rattle.paper.specs.Words.{at, among, allBelow, joined}
 use Rattle.paper.specs.declared.DocumentAnswer.{DocumentAnswer}
-use Rattle.paper.specs.declared.Reading.the-variants.{Prefixed}
+use Rattle.paper.specs.declared.Reading.the-variants.{Fixed, Prefixed, Short}
 use Rattle.paper.specs.declared.Reading.{Reading}
-use Rattle.writing.specs.Rewritten.{shortened, rewrittenBy, rewritten}
-use Rattle.names.proofs.SameLaws.{or-either}
-use Rattle.paper.proofs.WordLaws.{and-both}
 use Rattle.writing.proofs.MeaningLaws.{rewritten-is}
+use Rattle.writing.specs.Rewritten.{shortened, rewrittenBy, rewritten}
+use Rattle.writing.specs.Written.{Right}
 
--- ---- what the test says
+-- ---- by the first byte
 
 module _ (s : List ℕ) where
-  pub stands-short : length s ≤ 68 → false ≡ standing s
-  unfolding standing
-  stands-short h = rw (le-ltb 68 (length s) h)
+  by-reading : (r : Reading) → readingOf (at s 0) ≡ r
+      → ((inner : List ℕ → List ℕ) (ranks : List ℕ) → rewrittenBy inner ranks r s ≡ s) → ((inner : List ℕ → List ℕ) → idsBy inner r s ≡ []) → Standing s
+  unfolding rewritten idsIn
+  by-reading r e same none-used =
+      record {
+        same = λ ranks. ap (λ (q : Reading). rewrittenBy (rewritten (mostLevels - 1) ranks) ranks q s) e ∙ same _ ranks;
+        none-used = ap (λ (q : Reading). idsBy (idsIn (mostLevels - 1)) q s) e ∙ none-used _;
+      }
 
-  pub stands-binary : 68 < length s → at s 0 ≡ 60 → true ≡ standing s
-  unfolding standing
-  stands-binary h e = rw (lt-ltb 68 (length s) h, eq-eqb (at s 0) 60 e)
+  pub short-stands : at s 0 % 4 ≡ 1 → Standing s
+  unfolding readingOf kindReading rewrittenBy idsBy
+  short-stands e = by-reading (Short (at s 0 / 4)) (rw e) (λ inner ranks. refl) (λ inner. refl)
 
-  pub stands-string : 68 < length s → (at s 0 ≡ 60 → ⊥) → eqb (at s 0) 64 ≡ standing s
-  unfolding standing
-  stands-string h e = rw (lt-ltb 68 (length s) h, ne-eqb (at s 0) 60 e)
+  module _ (kind : at s 0 % 4 ≡ 0) (known : at s 0 ≤ 80) where
+    primitive-stands : eqb (at s 0 / 4) 16 && leb (length s) 68 ≡ false → Standing s
+    unfolding readingOf kindReading primitiveReading
+    primitive-stands kept = go (eqb (getD payloadSizes (at s 0 / 4) 0) lengthPrefixed) (rw (kind, le-leb (at s 0 / 4) 20 (omega arith)))
+      where
+        go : (b : Bool) → readingOf (at s 0) ≡ cond b (Prefixed (at s 0 / 4)) (Fixed (at s 0 / 4) (getD payloadSizes (at s 0 / 4) 0)) → Standing s
+        go true e = by-reading (Prefixed (at s 0 / 4)) e (λ inner ranks. unfold rewrittenBy shortened in rw kept) (λ inner. unfold idsBy in refl)
+        go false e = by-reading (Fixed (at s 0 / 4) _) e (λ inner ranks. unfold rewrittenBy in refl) (λ inner. unfold idsBy in refl)
 
--- ---- it is written as it stands
+    pub other-stands : (at s 0 ≡ 64 → ⊥) → Standing s
+    other-stands other = primitive-stands (rw (ne-eqb (at s 0 / 4) 16 (λ e. other (omega (arith, e)))))
 
-binary-first : readingOf 60 ≡ Prefixed 15
-unfolding readingOf kindReading primitiveReading payloadSizes lengthPrefixed
-binary-first = refl
+    pub long-stands : ltb 68 (length s) ≡ true → Standing s
+    long-stands long = primitive-stands (rw (lt-leb (length s) 68 (ltb-true 68 (length s) long), and-false (eqb (at s 0 / 4) 16)))
 
-string-first : readingOf 64 ≡ Prefixed 16
-unfolding readingOf kindReading primitiveReading payloadSizes lengthPrefixed
-string-first = refl
+-- ---- it is handed out without names
 
-unshortened : (type : ℕ) (s : List ℕ) → 68 < length s → shortened type s ≡ s
-unfolding shortened
-unshortened type s h = rw (lt-leb (length s) 68 h, and-false (eqb type 16))
+pub no-choice : {m : List ℕ} {names : Names} {v : List ℕ} → Lent m names v → (chosen : List ℕ) → Chosen m names chosen 0
+unfolding allBelow joined namesAt
+no-choice lent chosen =
+    record {
+      opened = lent .opened;
+      listed = omega arith;
+      few = omega arith;
+      known = refl;
+      small = lent .metadata-short;
+      short = omega arith;
+    }
 
-prefixed-same : (ranks s : List ℕ) (type : ℕ) → readingOf (at s 0) ≡ Prefixed type → 68 < length s → rewritten mostLevels ranks s ≡ s
-unfolding rewritten rewrittenBy
-prefixed-same ranks s type e h = ap (λ (r : Reading). rewrittenBy (rewritten (mostLevels - 1) ranks) ranks r s) e ∙ unshortened type s h
-
-stands-same : (ranks s : List ℕ) → standing s ≡ true → rewritten mostLevels ranks s ≡ s
-unfolding standing
-stands-same ranks s e =
-    let both = and-both (ltb 68 (length s)) (eqb (at s 0) 60 || eqb (at s 0) 64) e in
-    go (ltb-true 68 (length s) (both .0)) (or-either (eqb (at s 0) 60) (eqb (at s 0) 64) (both .1))
-  where
-    go : 68 < length s → (eqb (at s 0) 60 ≡ true) ⊎ (eqb (at s 0) 64 ≡ true) → rewritten mostLevels ranks s ≡ s
-    go h (inl f) = prefixed-same ranks s 15 (ap readingOf (eqb-true (at s 0) 60 f) ∙ binary-first) h
-    go h (inr f) = prefixed-same ranks s 16 (ap readingOf (eqb-true (at s 0) 64 f) ∙ string-first) h
-
--- ---- so what is handed out is the answer
-
-pub stands-answers : {m : List ℕ} {names : Names} {v ranks chosen : List ℕ} {count : ℕ} → Numbered m names v ranks chosen count
-    → (b : Bool) → b ≡ standing v → b ≡ true
+pub stands-answers : {m : List ℕ} {names : Names} {v : List ℕ} → Lent m names v → ((i : ℕ) → getD v i 0 < 256) → (b : Bool) → (b ≡ true → Standing v) → b ≡ true
     → {first first′ second second′ : List ℕ} {a : DocumentAnswer}
-    → ((d : Doc) → chosenNames m chosen count ≡ namesUsed d → v ≡ normalForm d .value → Answered (written d) first first′ second second′ a)
+    → ((d : Doc) → chosenNames m [] 0 ≡ namesUsed d → v ≡ normalForm d .value → Answered (written d) first first′ second second′ a)
     → (d : Doc) → meaningOf mostLevels (namesIn m) v ≡ some d → Answered (written d) first first′ second second′ a
-unfolding normalForm
-stands-answers {m} {names} {v} {ranks} n b told e answers d means =
-    let same : n .d ≡ d = some-injective (n .d) d (sym (n .means) ∙ means) in
-    let short = n .value-short in
-    let own = sym (stands-same ranks v (sym told ∙ e)) ∙ rewritten-is mostLevels (namesIn m) (namesUsed (n .d)) ranks v (n .d) (n .means) (n .bytes) (omega arith) (n .right) in
-    rw (← same) (answers (n .d) (n .used) own)
+unfolding normalForm namesAt holds rising
+stands-answers {m} {names} {v} lent bytes b told e answers d means =
+    let standing = told e in
+    let short = lent .value-short in
+    let exact : (name : List ℕ) → among name [] ≡ usedIn name d =
+    λ name. ap (λ (ids : List ℕ). among name (namesAt (namesIn m) ids)) (sym (standing .none-used)) ∙ ids-used mostLevels (namesIn m) v d means name in
+    let right : Right (namesIn m) (namesUsed d) [] (idsIn mostLevels v) =
+    λ id held. never (sym (sym (ap (holds id) (standing .none-used)) ∙ held)) in
+    let own = sym (standing .same []) ∙ rewritten-is mostLevels (namesIn m) (namesUsed d) [] v d means bytes (omega arith) right in
+    answers d (names-are d [] refl exact) own

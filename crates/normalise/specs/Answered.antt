@@ -1,10 +1,9 @@
 -- A document to be written into two lent buffers: the answer, and every byte of both.
-use mathlib.Core.Bool.{Bool, true, _&&_, _||_}
-use mathlib.Core.List.{List}
+use mathlib.Core.Bool.{true}
+use mathlib.Core.List.{List, []}
 use mathlib.Core.Option.{some}
 use mathlib.Core.Path.{_≡_}
 use Prim.Native.Nat.{ℕ, _≤_, _<_}
-use lib.Dec.{ltb, eqb}
 use lib.ListN.{length, getD}
 use Rattle.dictionary.specs.Judging.{Opened}
 use Rattle.dictionary.specs.declared.Names.{Names}
@@ -18,8 +17,9 @@ use Rattle.paper.specs.Normal.{Document, namesUsed}
 use Rattle.paper.specs.Operations.{documentAnswer, metadataWritten, valueWritten}
 use Rattle.paper.specs.Refusals.{Outcome}
 use Rattle.paper.specs.Values.{meaningOf}
-use Rattle.paper.specs.Words.{at, isThere, allBelow}
+use Rattle.paper.specs.Words.{isThere, allBelow}
 use Rattle.paper.specs.declared.DocumentAnswer.{DocumentAnswer}
+use Rattle.writing.specs.Rewritten.{rewritten}
 use Rattle.writing.specs.Written.{Right}
 
 pub record Answered (outcome : Outcome Document) (metadata₀ metadata value₀ value : List ℕ) (answer : DocumentAnswer) : Type 0 where
@@ -46,6 +46,7 @@ pub record Numbered (metadata : List ℕ) (names : Names) (value ranks chosen : 
   pub bytes : (i : ℕ) → getD value i 0 < 256
   pub value-short : length value ≤ mostValue
 
--- A string, type 16, or binary, type 15, that has its length in front: long enough that normal form writes it as it stands.
-unfoldable pub standing : List ℕ → Bool
-standing s = ltb 68 (length s) && (eqb (at s 0) 60 || eqb (at s 0) 64)
+-- A value that uses no names and is its own normal form.
+pub record Standing (value : List ℕ) : Type 0 where
+  pub same : (ranks : List ℕ) → rewritten mostLevels ranks value ≡ value
+  pub none-used : idsIn mostLevels value ≡ []

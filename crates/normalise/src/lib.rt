@@ -16,7 +16,7 @@ ghost use Rattle.paper.specs.Metadata.{namesIn};
 ghost use Rattle.paper.specs.Normal.{namesUsed, normalForm};
 ghost use Rattle.paper.specs.Operations.{written};
 ghost use Rattle.paper.specs.Values.{meaningOf};
-ghost use Rattle.normalise.specs.Answered.{Answered, Lent, Numbered, standing};
+ghost use Rattle.normalise.specs.Answered.{Answered, Lent, Numbered, Standing};
 use dictionary::Names;
 use paper::DocumentAnswer;
 use paper::Refusal;
@@ -88,20 +88,7 @@ fn write_out(
     )
 }
 
-// A long string or binary is its own normal form.
-fn stands(value: &[u8]) -> bool
-    ensures { λ r. ⌜ r ≡ standing (now (value .entry)) ⌝ }
-{
-    if value.len() <= 68 {
-        return false;
-    }
-    if value[0] == 60 {
-        return true;
-    }
-    value[0] == 64
-}
-
-// With the names numbered: lays out the room for the value, by its length, unless the value is its own normal form.
+// With the names numbered: lays out the room for the value, by its length.
 fn with_room(
     readings: &[u8],
     metadata: &[u8],
@@ -116,17 +103,6 @@ fn with_room(
     requires { ⌜ Readings (now readings) × Numbered (now metadata) names (now value) (now ranks) (now chosen) count × (length (now value) ≤ mostValue) ⌝ }
     ensures { λ r. ⌜ ((d : Doc) → meaningOf mostLevels (namesIn (now (metadata .entry))) (now (value .entry)) ≡ some d → Answered (written d) (now («metadata_out» .entry)) (now («metadata_out» .exit)) (now («value_out» .entry)) (now («value_out» .exit)) r) ⌝ }
 {
-    if stands(value) {
-        return hand_out(
-            metadata,
-            names,
-            chosen,
-            count,
-            value,
-            metadata_out,
-            value_out,
-        );
-    }
     if value.len() <= 256 {
         let mut room = [0u8; 512];
         return write_out(
@@ -202,8 +178,8 @@ fn with_tables(
     )
 }
 
-// Writes the normal form of a lawful document. The tables go by the number of names in its dictionary.
-pub fn normalise(
+// Writes by way of tables, which go by the number of names in the dictionary.
+fn by_tables(
     metadata: &[u8],
     names: Names,
     value: &[u8],
@@ -256,4 +232,46 @@ pub fn normalise(
         metadata_out,
         value_out,
     )
+}
+
+// A scalar uses no names and is its own normal form, but a string of at most 63 bytes that has its length in front. Of other
+// values this says nothing.
+fn stands(value: &[u8]) -> bool
+    ensures { λ r. ⌜ (r ≡ true → Standing (now (value .entry))) ⌝ }
+{
+    if value.len() == 0 {
+        return false;
+    }
+    let first = value[0];
+    if first % 4 == 1 {
+        return true;
+    }
+    if first % 4 != 0 {
+        return false;
+    }
+    if 80 < first {
+        return false;
+    }
+    if first != 64 {
+        return true;
+    }
+    68 < value.len()
+}
+
+// Writes the normal form of a lawful document. A value that is its own is handed out as it stands, without names.
+pub fn normalise(
+    metadata: &[u8],
+    names: Names,
+    value: &[u8],
+    metadata_out: &mut [u8],
+    value_out: &mut [u8],
+) -> DocumentAnswer
+    requires { ⌜ Lent (now metadata) names (now value) ⌝ }
+    ensures { λ r. ⌜ ((d : Doc) → meaningOf mostLevels (namesIn (now (metadata .entry))) (now (value .entry)) ≡ some d → Answered (written d) (now («metadata_out» .entry)) (now («metadata_out» .exit)) (now («value_out» .entry)) (now («value_out» .exit)) r) ⌝ }
+{
+    if stands(value) {
+        let chosen = [0u16; 1];
+        return hand_out(metadata, names, &chosen, 0, value, metadata_out, value_out);
+    }
+    by_tables(metadata, names, value, metadata_out, value_out)
 }

@@ -11,11 +11,11 @@ use Rattle.paper.proofs.WordLaws.{there-some}
 use Rattle.paper.specs.Bounds.{mostWalked}
 use Rattle.paper.specs.Cells.{cellMeaning}
 use Rattle.paper.specs.Limits.{mostLevels}
-use Rattle.paper.specs.Meaning.{Scalar, Doc, null, scalar}
+use Rattle.paper.specs.Meaning.{Scalar, null, scalar}
 use Rattle.paper.specs.Metadata.{Dictionary, namesIn}
 use Rattle.paper.specs.Operations.{written}
 use Rattle.paper.specs.Rebuilding.{orNull, placeMeaningBy, cellDoc}
-use Rattle.paper.specs.Rows.{Place, Typed as TypedBody, cell, cellBody, leftoverMeaning}
+use Rattle.paper.specs.Rows.{Place, cell, cellBody, leftoverMeaning}
 use Rattle.paper.specs.Schemas.{Column, Schema, column, schemaOf, columnCode}
 use Rattle.paper.specs.Words.{part, isThere, andThen}
 use Rattle.paper.specs.declared.DocumentAnswer.{DocumentAnswer}

@@ -1,22 +1,19 @@
--- `normalise`: the tables have an entry for each name.
-use mathlib.Core.Path.{refl}
+-- `normalise`: a value that is its own normal form is handed out with no name chosen; any other goes by way of tables.
 use native.Mathlib.Omega.{arith}
 use borrow.Author.Needs.{needs}
-use Rattle.normalise.proofs.NumberedLaws.{count-few}
+use Rattle.normalise.proofs.StandingLaws.{no-choice, stands-answers}
 use Rattle.normalise.proofs.normalise.Statement.{statement}
 use Rattle.normalise.proofs.normalise.Tie as tie
 
-with-tables-requires-3 : tie.Need-with-tables-requires-3
-with-tables-requires-3 c κs =
-    let pre = c .before .before .before .before .before .before .before .before .before .before .before .before .before .pre in
-    let few = count-few pre in
-    (pre, omega (arith, few), omega (arith, few), omega (arith, few), refl)
+returns : tie.Need-returns
+returns c =
+    let start = c .before .before .before .before .before .before .before .before .before .before .before .before .before .before in
+    let told = c .before .before .before .before .before .before .before .before in
+    stands-answers (start .pre) (λ i. omega (arith, c .before .before .before .before .before .before .before .before .before .before .before .before .shared-slice-known2 .given i)) _ (told .before .stands .ensures) (told .if1 .taken) (c .before .before .before .before .hand-out .ensures)
 
 pub normalise-spec : {M : Type 1} → statement M
 normalise-spec =
     tie.close
-    (tie.spec (λ c. search needs) (λ c. search needs) (λ c. search needs) (λ c κs. search needs) (λ c. search needs)
-    (λ c. search needs) (λ c. search needs) (λ c. search needs) (λ c. search needs) (λ c. search needs)
-    (λ c κs. search needs) (λ c. search needs) (λ c. search needs) (λ c. search needs) (λ c. search needs)
-    (λ c. search needs) (λ c. search needs) with-tables-requires-3
-    (λ c. search needs) (λ c. search needs) (λ c. search needs))
+    (tie.spec (λ c κs. search needs) (λ c. search needs) (λ c κs. search (needs, no-choice))
+    (λ c. search needs) (λ c. search needs) returns
+    (λ c κs. search needs) (λ c. search needs) (λ c. search needs) (λ c. search needs))
