@@ -38,7 +38,7 @@ use Rattle.schemas.specs.Positions.{Stands}
 use Rattle.schemas.specs.declared.readers.Kind.the-variants.{Leftover, Column as ColumnKind, List as ListKind, Fields as FieldsKind}
 use Rattle.schemas.specs.declared.readers.Kind.{Kind}
 use Rattle.handing.proofs.HandLaws.{row-outcome}
-use Rattle.handing.specs.Handing.{RowAnswered, rowOf, noNames, Alone}
+use Rattle.handing.specs.Handing.{RowAnswered, rowFrom, noNames, Alone}
 
 -- ---- how long a place is
 
@@ -167,7 +167,7 @@ module _ {schema value before after : List ℕ} {r : Put}
   alone-starts known e = let size = told-here (put known) e .1 .size in omega arith
 
   pub alone-answers : {start : ℕ} → r ≡ At start → {row row′ : List ℕ} {a : RowAnswer}
-      → RowAnswered (rowOf noNames (take (length before - start) (drop start after))) row row′ a
+      → RowAnswered (rowFrom noNames (take (length before - start) (drop start after))) row row′ a
       → (alone : Alone schema value) → RowAnswered (rowOutcome (alone .normal .node) (alone .normal .d)) row row′ a
   alone-answers e answered alone =
       rw (alone .normal .metadata-is, last-bytes (told-here (put alone) e .1), row-outcome (alone .normal .node) (alone .normal .d) (value-short alone)) at answered

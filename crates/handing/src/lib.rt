@@ -6,7 +6,6 @@ mod rooms;
 mod scalar;
 
 pub use scalar::alone;
-
 ghost use mathlib.Core.Bool.{true};
 ghost use mathlib.Core.Option.{some};
 ghost use mathlib.Core.Path.{_≡_};

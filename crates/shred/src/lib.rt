@@ -2,7 +2,8 @@
 //
 // The document is normalised into scratch, its normal value is cut along the schema into a room, and what stands there is
 // handed out, so that the row's length is known before a byte of the caller's buffer is touched. Scratch goes by the
-// document's lengths, so that a small document does not pay for a full-size one.
+// document's lengths, so that a small document does not pay for a full-size one. A scalar that is its own normal form needs
+// none of it.
 mod single;
 
 ghost use mathlib.Core.Bool.{true};
@@ -20,6 +21,8 @@ ghost use Rattle.paper.specs.Values.{meaningOf};
 ghost use Rattle.paper.specs.Words.{isThere};
 ghost use Rattle.handing.specs.Handing.{RowAnswered};
 ghost use Rattle.shred.specs.Scratch.{Scratch};
+use crate::single::shred_alone;
+use crate::single::stands_alone;
 use dictionary::Names;
 use handing::with_tables;
 use paper::DocumentAnswer;
@@ -163,8 +166,40 @@ fn with_large_scratch(
     )
 }
 
-// Writes the row of a lawful document under a good schema.
-pub fn shred(
+// With scratch for metadata of at most 2,048 bytes and a value of any length that it may have.
+fn with_long_value(
+    schema: &[u8],
+    metadata: &[u8],
+    names: Names,
+    value: &[u8],
+    row: &mut [u8],
+) -> RowAnswer
+    requires { ⌜ Lent (now metadata) names (now value) × (isThere (schemaOf (now schema)) ≡ true) × (length (now schema) ≤ mostSchema) × (length (now metadata) ≤ 2048) ⌝ }
+    ensures { λ r. ⌜ ((node : Schema) (d : Doc) → schemaOf (now (schema .entry)) ≡ some node → meaningOf mostLevels (namesIn (now (metadata .entry))) (now (value .entry)) ≡ some d → RowAnswered (rowOutcome node d) (now (row .entry)) (now (row .exit)) r) ⌝ }
+{
+    let mut normal_metadata = [0u8; 2048];
+    let mut normal_value = [0u8; 16384];
+    let mut ranks = [0u16; 2048];
+    let mut notes = [0u16; 16384];
+    let mut ids = [0u8; 16384];
+    let mut room = [0u8; 65535];
+    with_scratch(
+        schema,
+        metadata,
+        names,
+        value,
+        &mut normal_metadata,
+        &mut normal_value,
+        &mut ranks,
+        &mut notes,
+        &mut ids,
+        &mut room,
+        row,
+    )
+}
+
+// By way of scratch that goes by the lengths of the metadata and of the value.
+fn by_lengths(
     schema: &[u8],
     metadata: &[u8],
     names: Names,
@@ -178,7 +213,7 @@ pub fn shred(
         return with_large_scratch(schema, metadata, names, value, row);
     }
     if 2048 < value.len() {
-        return with_large_scratch(schema, metadata, names, value, row);
+        return with_long_value(schema, metadata, names, value, row);
     }
     if 256 < metadata.len() {
         return with_middle_scratch(schema, metadata, names, value, row);
@@ -187,4 +222,21 @@ pub fn shred(
         return with_middle_scratch(schema, metadata, names, value, row);
     }
     with_small_scratch(schema, metadata, names, value, row)
+}
+
+// Writes the row of a lawful document under a good schema.
+pub fn shred(
+    schema: &[u8],
+    metadata: &[u8],
+    names: Names,
+    value: &[u8],
+    row: &mut [u8],
+) -> RowAnswer
+    requires { ⌜ Lent (now metadata) names (now value) × (isThere (schemaOf (now schema)) ≡ true) × (length (now schema) ≤ mostSchema) ⌝ }
+    ensures { λ r. ⌜ ((node : Schema) (d : Doc) → schemaOf (now (schema .entry)) ≡ some node → meaningOf mostLevels (namesIn (now (metadata .entry))) (now (value .entry)) ≡ some d → RowAnswered (rowOutcome node d) (now (row .entry)) (now (row .exit)) r) ⌝ }
+{
+    if stands_alone(value) {
+        return shred_alone(schema, value, row);
+    }
+    by_lengths(schema, metadata, names, value, row)
 }
