@@ -23,7 +23,7 @@ use Rattle.promises.specs.Buffers.{metadataLeft, valueLeft, rowLeft}
 use Rattle.promises.specs.Done.{Bytes, Means, Shreds}
 
 -- ---- refusing everything. `AnyBytes.antt` says that each refusal is given exactly when its condition holds; and:
--- (`register/check_refuses_everything`, `documents/value_limit_one_low`, `cells/cell_of_full_size_refused`,
+-- (`documents/every_document_refused`, `documents/value_limit_one_low`, `cells/cell_of_full_size_refused`,
 -- `handing/a_row_of_full_size_refused`, `paths/no_name_is_found`, `boxes/box_always_absent`)
 
 -- Every document is accepted: scalars of their types and sizes, names that rise, at most 16 levels (`wellFormed`), written in
@@ -135,8 +135,8 @@ Not-Left-Over =
     → (hasTyped (parsed .outermost) ≡ true) × (hasLeftover (parsed .outermost) ≡ false)
 
 -- ---- done with nothing written, or an invented length: what stands first in the buffer is the row of the document under the
--- schema, and the length is its length. (`handing/done_with_nothing_written`, `handing/needed_without_the_metadata`,
--- `shred/too_large_is_done`; of normalise `writing/nothing_written`, `naming/size_without_the_last_offset`)
+-- schema, and the length is its length. (`handing/done_with_nothing_written`; of normalise
+-- `naming/size_without_the_last_offset`)
 abbrev pub Done-Row-Written : Type 0
 Done-Row-Written =
     (schema metadata value before : List ℕ) (size : ℕ) → rowAnswer (shredOutcome schema metadata value) (length before) ≡ RowAnswer.Done size
