@@ -80,7 +80,7 @@ fn too_long() -> Vec<Timed> {
     let objects = |count: usize| {
         let doc = Doc::Array(vec![Doc::Object(vec![]); count]);
         let (metadata, value) = encode(&doc, &[], Layout::Sorted);
-        shredded(&format!("row too long, {count} empty objects"), schema.clone(), metadata, value)
+        shredded(&format!("refused as a row too long: {count} empty objects"), schema.clone(), metadata, value)
     };
     vec![objects(58), objects(3_000)]
 }
