@@ -82,7 +82,7 @@ fn too_long() -> Vec<Timed> {
         let (metadata, value) = encode(&doc, &[], Layout::Sorted);
         shredded(&format!("refused as a row too long: {count} empty objects"), schema.clone(), metadata, value)
     };
-    vec![objects(58), objects(3_000)]
+    vec![objects(60), objects(3_000)]
 }
 
 /// A row of this metadata and what its outermost place holds.
