@@ -7,7 +7,7 @@
  * the length is 0 (any other pointer will do then). An output buffer overlaps no other slice.
  * Nothing is kept after a call, nothing is allocated, and any bytes at all may be lent. Scratch is on
  * the stack: at most 200 KB for check, find and box, at most 300 KB for normalise and judge, at most
- * 500 KB for shred and rebuild.
+ * 500 KB for rebuild, at most 600 KB for shred.
  *
  * LIMITS. Metadata and value at most 16,384 bytes each; schema 4,096; path 1,024; row 65,535; a cell
  * lent to its reader 16,384. Nesting at most 16 levels, the outermost value being level 1. A longer
