@@ -24,7 +24,7 @@ use Rattle.promises.specs.Done.{Bytes, Means, Shreds}
 
 -- ---- refusing everything. `AnyBytes.antt` says that each refusal is given exactly when its condition holds; and:
 -- (`documents/every_document_refused`, `documents/value_limit_one_low`, `cells/cell_of_full_size_refused`,
--- `handing/a_row_of_full_size_refused`, `paths/no_name_is_found`, `boxes/box_always_absent`)
+-- `paths/no_name_is_found`, `boxes/box_always_absent`)
 
 -- Every document is accepted: scalars of their types and sizes, names that rise, at most 16 levels (`wellFormed`), written in
 -- normal form within the limits, are read as that document.
