@@ -1,6 +1,8 @@
 // The reader of a lot's box: four doubles named east, north, south and west.
 //
 // The functions with a `requires` are inner ones: whoever calls them has had the document judged.
+#![tactic(auto)]
+
 ghost use Rattle.std.specs.Prelude.{true, ◌≡◌, ℕ};
 ghost use Rattle.std.proofs.Math.Option.{some};
 ghost use Rattle.paper.specs.Boxes.{double_of, side, box_in, box_of};
@@ -17,7 +19,7 @@ use paper::{BoxAnswer, LotBox, Reading};
 use paths::Place;
 
 // A side of a box: a double that is in an order.
-#[derive(Drop)]
+#[derive(Clone, Copy)]
 enum Side {
     Double(f64),
     Nothing,

@@ -1,4 +1,6 @@
 // The reader of one typed cell: given a type code and its bytes, it is handed out by kind.
+#![tactic(auto)]
+
 ghost use Rattle.std.specs.Prelude.{true, cond, ◌≡◌, length};
 ghost use Rattle.std.specs.Float.Ieee.{of_bits, nan_bits};
 ghost use Rattle.std.specs.Float.{binary32, binary64};

@@ -1,4 +1,6 @@
 // Rule c: whether a leftover has a name that its node names.
+#![tactic(auto)]
+
 mod merging;
 
 pub use merging::clash;

@@ -11,7 +11,7 @@ use heads::Extent;
 
 // What the lengths of a container's children come to: one has none or passes the area; they lie end to end from the
 // start of the area to its end; or they lie otherwise, with the sum of their sizes.
-#[derive(Drop)]
+#[derive(Clone, Copy)]
 pub enum Lengths {
     Broken,
     EndToEnd,

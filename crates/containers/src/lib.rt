@@ -1,4 +1,6 @@
 // The shape of a container: its layout, its children's lengths, every byte in exactly one child, and names that rise.
+#![tactic(auto)]
+
 mod children;
 mod cover;
 mod fields;

@@ -15,7 +15,7 @@ use dictionary::Names;
 
 // Where a container has what: how many children, where their starts stand, how wide each start is, and where the value
 // area begins.
-#[derive(Drop)]
+#[derive(Clone, Copy)]
 pub struct Layout {
     pub count: usize,
     pub starts: usize,

@@ -2,6 +2,8 @@
 // front.
 //
 // The functions with a `requires` are inner ones: whoever calls them has written the normal form and had the schema judged.
+#![tactic(auto)]
+
 mod cutter;
 mod missing;
 mod passing;

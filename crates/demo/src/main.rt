@@ -2,6 +2,8 @@
 //
 // The lots come on standard input, one to a line: an operation, the words that it is lent, a bar and a title. A word is
 // bytes in hex, `-` if there are none, and a number is one byte. A line with no bar is a heading, and is said as it is.
+#![tactic(auto)]
+
 mod lots;
 mod reading;
 mod saying;

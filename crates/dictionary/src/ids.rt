@@ -10,11 +10,11 @@ use crate::{Names, name};
 use order::is_before;
 
 // An input name id: one under lent metadata.
-#[derive(Drop)]
+#[derive(Clone, Copy)]
 pub struct InputId(pub usize);
 
 // A normal name id: one under the normal dictionary, rebuilt from the names used.
-#[derive(Drop)]
+#[derive(Clone, Copy)]
 pub struct NormalId(pub usize);
 
 // The id that stands at a place of lent bytes, in so many of them.

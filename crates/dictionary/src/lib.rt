@@ -1,6 +1,8 @@
 // Dictionary: metadata judged by the rules of 01, and its names.
 //
 // The functions with a `requires` are inner ones: whoever calls them has had the metadata judged.
+#![tactic(auto)]
+
 mod ids;
 
 ghost use Rattle.std.specs.Prelude.{true, [], ◌≡◌, ◌+◌, ◌*◌, ◌≤◌, ◌<◌, length, get_or};
@@ -14,7 +16,7 @@ use numbers::{read, wide};
 use order::is_before;
 
 // What was read of lawful metadata: the offset size, the count, and the sorted flag.
-#[derive(Drop)]
+#[derive(Clone, Copy)]
 pub struct Names {
     pub width: usize,
     pub count: usize,
@@ -22,7 +24,7 @@ pub struct Names {
 }
 
 // What metadata is.
-#[derive(Drop)]
+#[derive(Clone, Copy)]
 pub enum Judged {
     Good(Names),
     Broken,

@@ -1,4 +1,6 @@
 // A lent document judged: refusals 1, 2 and 3, the lowest first.
+#![tactic(auto)]
+
 ghost use Rattle.std.specs.Prelude.{true, ◌≡◌, ◌≤◌, length};
 ghost use Rattle.paper.specs.Words.{is_there};
 ghost use Rattle.paper.specs.Limits.{most_levels, most_value};
@@ -11,7 +13,7 @@ use dictionary::{Judged, Names};
 use paper::Refusal;
 
 // What a lent document is: lawful, with what was read of its metadata, or refused.
-#[derive(Drop)]
+#[derive(Clone, Copy)]
 pub enum Document {
     Lawful(Names),
     Refused(Refusal),

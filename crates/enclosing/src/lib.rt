@@ -2,6 +2,8 @@
 // has one part, a value under a column.
 //
 // The functions with a `requires` are inner ones: whoever calls them has written the value in its normal form.
+#![tactic(auto)]
+
 ghost use Rattle.std.specs.Prelude.{[], ◌++◌, ◌≡◌, ◌+◌, ◌-◌, ◌≤◌, ◌<◌, length};
 ghost use Rattle.heads.specs.Packing.{Readings};
 ghost use Rattle.paper.specs.FirstBytes.{reading_of};

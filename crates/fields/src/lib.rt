@@ -1,6 +1,8 @@
 // The id of each schema field's name in a dictionary, found once and kept in a table by the field's position.
 //
 // The functions with a `requires` are inner ones: whoever calls them has had schema and metadata judged.
+#![tactic(auto)]
+
 ghost use Rattle.std.specs.Prelude.{true, ◌≡◌, ◌/◌, ◌≤◌, ◌<◌, length, set};
 ghost use Rattle.std.proofs.Math.Option.{some};
 ghost use Rattle.paper.specs.Bounds.{most_names, most_walked};

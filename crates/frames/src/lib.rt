@@ -1,9 +1,11 @@
 // The house framing: a one-byte tag, a two-byte length, and that many bytes.
+#![tactic(auto)]
+
 ghost use Rattle.std.specs.Prelude.{◌≡◌, ◌<◌, length};
 ghost use Rattle.frames.specs.Frames.{frame_at};
 
 // The frame that starts at a place: where it ends, or that it does not fit. Its body starts three bytes behind the place.
-#[derive(Drop)]
+#[derive(Clone, Copy)]
 pub enum Frame {
     Ends(usize),
     Cut,

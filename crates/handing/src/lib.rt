@@ -2,6 +2,8 @@
 // stands there is handed out behind the metadata, so that the row's length is known before a byte of the buffer is touched.
 //
 // The functions with a `requires` are inner ones: whoever calls them has written the normal form and had the schema judged.
+#![tactic(auto)]
+
 mod rooms;
 mod scalar;
 

@@ -8,7 +8,7 @@ use paper::{Refusal, RowAnswer};
 use putting::Put;
 
 // What came of a room: the answer, or the room is too short for the outermost place.
-#[derive(Drop)]
+#[derive(Clone, Copy)]
 enum Tried {
     Told(RowAnswer),
     NoRoom,

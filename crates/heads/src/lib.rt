@@ -1,5 +1,7 @@
 // First bytes: the reading of each, the payload sizes of the primitive types, and how long the value that starts
 // somewhere says it is.
+#![tactic(auto)]
+
 ghost use Rattle.std.specs.Prelude.{◌≡◌, ◌+◌, ◌^◌, ◌≤◌, ◌<◌, get_or};
 ghost use Rattle.paper.specs.FirstBytes.{payload_sizes, reading_of};
 ghost use Rattle.paper.specs.Values.{head_size_of, container_extent, extent};
@@ -13,7 +15,7 @@ mod tables;
 pub use tables::READINGS;
 
 // How long a value says it is, where its head is there and says so.
-#[derive(Drop)]
+#[derive(Clone, Copy)]
 pub enum Extent {
     Size(usize),
     Unknown,

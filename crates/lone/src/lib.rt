@@ -1,5 +1,7 @@
 // A document that is one cell or a null alone, written in its normal form. It uses no names, and its length is known before it
 // is written: so it goes straight into the lent buffers.
+#![tactic(auto)]
+
 ghost use Rattle.std.specs.Prelude.{true, ◌∷◌, ◌≡◌, ◌+◌, ◌≤◌, ◌<◌, length};
 ghost use Rattle.std.proofs.Math.Option.{some};
 ghost use Rattle.normalise.specs.Answered.{Answered};

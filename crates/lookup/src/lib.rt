@@ -1,6 +1,8 @@
 // A name's id in a dictionary, by halving the names in their order.
 //
 // The functions with a `requires` are inner ones: whoever calls them has had the metadata judged.
+#![tactic(auto)]
+
 ghost use Rattle.std.specs.Prelude.{false, [], ◌≡◌, ◌≤◌, ◌<◌, length, get_or};
 ghost use Rattle.order.specs.Before.{order_of};
 ghost use Rattle.paper.specs.Bounds.{most_names};
@@ -14,7 +16,7 @@ use order::{Order, compare};
 use ranking::{id_at, put_id, sort};
 
 // What a look-up finds.
-#[derive(Drop)]
+#[derive(Clone, Copy)]
 pub enum Looked {
     At(InputId),
     Nowhere,

@@ -1,4 +1,6 @@
 // Which names of a dictionary a value uses: the ids inside a lawful value, marked in a table in one walk.
+#![tactic(auto)]
+
 ghost use Rattle.std.specs.Prelude.{◌≡◌, true, ◌*◌, ◌≤◌, ◌<◌, eqb, length, get_or, set};
 ghost use Rattle.paper.specs.Words.{numbers, all_below};
 ghost use Rattle.paper.specs.Values.{area_of, starts_of, children_at};

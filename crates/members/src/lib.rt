@@ -1,6 +1,8 @@
 // A container in normal form: where its members stand in it, and each by its number.
 //
 // The functions with a `requires` are inner ones: whoever calls them has written the normal form.
+#![tactic(auto)]
+
 ghost use Rattle.std.specs.Prelude.{◌≡◌};
 ghost use Rattle.containers.specs.Layouts.{Container};
 ghost use Rattle.members.specs.Members.{MembersAt, PartThere, IdThere, member_part, member_id};
@@ -9,7 +11,7 @@ use dictionary::NormalId;
 
 // Where the ids, the starts and the area of a container stand, how many bytes an id and a start take, and how many members
 // there are. An array has no ids.
-#[derive(Drop)]
+#[derive(Clone, Copy)]
 pub struct Members {
     pub ids: usize,
     pub id: usize,

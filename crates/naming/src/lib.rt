@@ -1,4 +1,6 @@
 // Normal metadata written: the names of chosen ids of lent metadata, in the order in which the ids are listed.
+#![tactic(auto)]
+
 ghost use Rattle.std.specs.Prelude.{[], ◌≡◌, ◌+◌, ◌*◌, ◌≤◌, ◌<◌, max, length, get_or};
 ghost use Rattle.numbers.specs.Little.{put_at, smallest_width};
 ghost use Rattle.dictionary.specs.Judging.{Opened};

@@ -2,6 +2,8 @@
 //
 // The value is first written into scratch, so that its length is known before a byte of the caller's buffers is touched.
 // Scratch goes by the sizes of the dictionary and of the value, so that a small document does not pay for a full-size one.
+#![tactic(auto)]
+
 ghost use Rattle.std.specs.Prelude.{true, ◌≡◌, ◌*◌, ◌≤◌, length, replicate};
 ghost use Rattle.std.proofs.Math.Option.{some};
 ghost use Rattle.heads.specs.Packing.{Readings};

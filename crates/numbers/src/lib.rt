@@ -2,6 +2,8 @@
 // to a place.
 //
 // The functions with a `requires` are inner ones: whoever calls them has shown that the bytes are there.
+#![tactic(auto)]
+
 ghost use Rattle.std.specs.Prelude.{◌≡◌, ◌+◌, ◌*◌, ◌≤◌, ◌<◌, ◌^◌, length};
 ghost use Rattle.numbers.specs.Little.{number_at, number_bytes, put_at, smallest_width};
 
@@ -96,5 +98,6 @@ pub fn put(out: &mut [u8], place: usize, source: &[u8])
     requires { place + length source.now ≤ length out.old }
     ensures { out.new ≡ put_at out.old place source.now }
 {
-    bytes::copy(source, &mut out[place..]);
+    let end = place + source.len();
+    out[place..end].copy_from_slice(source);
 }

@@ -1,4 +1,6 @@
 // The order of byte strings: by unsigned bytes, a prefix being smaller.
+#![tactic(auto)]
+
 ghost use Rattle.std.specs.Prelude.{◌≡◌, ◌≤◌};
 ghost use Rattle.order.specs.Before.{before, order_of};
 ghost use Rattle.order.specs.Agreed.{Agreed};
@@ -6,7 +8,7 @@ ghost use Rattle.order.specs.Agreed.{Agreed};
 use numbers::read8;
 
 // How two byte strings stand to each other.
-#[derive(Drop)]
+#[derive(Clone, Copy)]
 pub enum Order {
     Less,
     Equal,

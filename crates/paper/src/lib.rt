@@ -1,5 +1,7 @@
 // Document 01 as definitions: everything that a reader must believe is in `specs/`, a file to a paragraph of 01, in its
 // order. This file has the types of the answers, which the definitions and the operations share.
+#![tactic(auto)]
+
 ghost use Rattle.std.specs.Prelude.{◌≡◌};
 ghost use Rattle.paper.specs.Constants.{AsStated};
 ghost use Rattle.paper.specs.Refusals.{refusal_number};
@@ -22,7 +24,7 @@ pub const MOST_LEFTOVER: usize = 16384;
 pub const MOST_LEVELS: usize = 16;
 
 // The constants as a record, so that they can be shown to be those numbers.
-#[derive(Drop)]
+#[derive(Clone, Copy)]
 pub struct Limits {
     pub metadata: usize,
     pub value: usize,
@@ -50,7 +52,7 @@ pub fn may_hold() -> Limits
 }
 
 // Why the register says no, in the order of 01's numbers 1 to 8. (9 is an answer that carries the lengths needed.)
-#[derive(Drop)]
+#[derive(Clone, Copy)]
 pub enum Refusal {
     TooLong,
     BadMetadata,
@@ -79,7 +81,7 @@ pub fn number(refusal: Refusal) -> u8
 }
 
 // What a first byte says. Numbers are the bytes that a count, an id, an offset or a payload takes.
-#[derive(Drop)]
+#[derive(Clone, Copy)]
 pub enum Reading {
     // A primitive with a payload of that size.
     Fixed {
@@ -108,14 +110,14 @@ pub enum Reading {
 }
 
 // The answer of check.
-#[derive(Drop)]
+#[derive(Clone, Copy)]
 pub enum Checked {
     Good,
     Refused(Refusal),
 }
 
 // The answer of find.
-#[derive(Drop)]
+#[derive(Clone, Copy)]
 pub enum Found {
     At { start: usize, length: usize },
     Absent,
@@ -123,7 +125,7 @@ pub enum Found {
 }
 
 // The answer of normalise and of rebuild: the lengths written, or, where a buffer is too short, the lengths needed.
-#[derive(Drop)]
+#[derive(Clone, Copy)]
 pub enum DocumentAnswer {
     Done { metadata: usize, value: usize },
     Short { metadata: usize, value: usize },
@@ -131,7 +133,7 @@ pub enum DocumentAnswer {
 }
 
 // The answer of shred: the length written, or, where the buffer is too short, the length needed.
-#[derive(Drop)]
+#[derive(Clone, Copy)]
 pub enum RowAnswer {
     Done(usize),
     Short(usize),
@@ -139,7 +141,7 @@ pub enum RowAnswer {
 }
 
 // One typed cell. A float's bits cross only off a NaN in today's toolchain, so a NaN comes out as its bits.
-#[derive(Drop)]
+#[derive(Clone, Copy)]
 pub enum Cell {
     Boolean(bool),
     Integer(i64),
@@ -152,14 +154,14 @@ pub enum Cell {
 }
 
 // The answer of the cell reader.
-#[derive(Drop)]
+#[derive(Clone, Copy)]
 pub enum CellAnswer {
     Read(Cell),
     Refused(Refusal),
 }
 
 // A lot's box.
-#[derive(Drop)]
+#[derive(Clone, Copy)]
 pub struct LotBox {
     pub east: f64,
     pub north: f64,
@@ -168,7 +170,7 @@ pub struct LotBox {
 }
 
 // The answer of the box reader.
-#[derive(Drop)]
+#[derive(Clone, Copy)]
 pub enum BoxAnswer {
     Read(LotBox),
     Absent,

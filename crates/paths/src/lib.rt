@@ -1,4 +1,6 @@
 // Paths: an object's field by its name, and find.
+#![tactic(auto)]
+
 mod finding;
 mod path;
 mod places;

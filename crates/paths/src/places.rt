@@ -14,7 +14,7 @@ use heads::Extent;
 use order::Order;
 
 // Where a child is, as a part of the value area.
-#[derive(Drop)]
+#[derive(Clone, Copy)]
 pub enum Place {
     At { start: usize, size: usize },
     Nowhere,

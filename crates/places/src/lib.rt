@@ -1,5 +1,7 @@
 // The places of a row, each by itself: its frames, its leftover's rules a to d, rule f, and verdicts put together. The walk
 // through them is in `rows`.
+#![tactic(auto)]
+
 mod frame;
 mod halves;
 mod leftovers;

@@ -9,7 +9,7 @@ use frames::{Frame, frame_at};
 
 // What a place holds: at most one `41` and then at most one `42`. Where there are both, the leftover's frame ends at the place
 // told.
-#[derive(Drop)]
+#[derive(Clone, Copy)]
 pub enum Parts {
     Empty,
     Leftover,

@@ -2,7 +2,7 @@
 ghost use Rattle.std.specs.Prelude.{cond, ◌≡◌};
 ghost use Rattle.places.specs.Verdicts.{worse, broken_if};
 
-#[derive(Drop)]
+#[derive(Clone, Copy)]
 pub enum Verdict {
     // It parses and keeps rules a to f.
     Lawful,

@@ -1,6 +1,8 @@
 // Parts of a value, written in normal form, put in front of a place of a room, unless they would reach below a floor.
 //
 // The functions with a `requires` are inner ones: whoever calls them has had the parts judged.
+#![tactic(auto)]
+
 ghost use Rattle.std.specs.Prelude.{◌≡◌, length};
 ghost use Rattle.heads.specs.Packing.{Readings};
 ghost use Rattle.writing.specs.Rewritten.{rewritten};
@@ -13,7 +15,7 @@ pub use container::{array, object};
 pub use scalars::{cell, null};
 
 // Where a part starts; or it would reach below the floor.
-#[derive(Drop)]
+#[derive(Clone, Copy)]
 pub enum Put {
     At(usize),
     Full,

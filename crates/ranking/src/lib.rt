@@ -2,6 +2,8 @@
 // each used id gets the place of its name among them.
 //
 // The functions with a `requires` are inner ones: whoever calls them has had the metadata judged.
+#![tactic(auto)]
+
 mod ranks;
 mod sorting;
 mod tables;

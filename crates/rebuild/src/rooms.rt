@@ -15,7 +15,7 @@ use putting::Put;
 use rows::RowParts;
 
 // What came of a room: the answer, or the room is too short for the value.
-#[derive(Drop)]
+#[derive(Clone, Copy)]
 enum Tried {
     Told(DocumentAnswer),
     NoRoom,

@@ -1,6 +1,8 @@
 // The register's operations, and each as a function for C (`include/tanvelis.h`). None requires anything of its caller:
 // any bytes may be lent. What an operation answers is a definition of `paper`; what crosses to C is the word of that
 // answer, and for a box and a cell words of their own (`words/specs/`).
+#![tactic(auto)]
+
 ghost use Rattle.std.specs.Prelude.{◌≡◌, true, ◌≤◌, length};
 ghost use Rattle.std.proofs.Math.Option.{some};
 ghost use Rattle.dictionary.specs.Judging.{Opened};

@@ -1,6 +1,8 @@
 // What is left over of an object in normal form: the fields that its node does not name, copied behind a head of their own.
 //
 // The function with a `requires` is an inner one: whoever calls it has written the normal form and had the schema judged.
+#![tactic(auto)]
+
 ghost use Rattle.std.specs.Prelude.{◌≤◌, length};
 ghost use Rattle.heads.specs.Packing.{Readings};
 ghost use Rattle.paper.specs.Limits.{most_row};

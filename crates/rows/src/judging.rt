@@ -12,21 +12,21 @@ use places::{Verdict, row_halves};
 
 // What was read of a row: its metadata's frame ends at `middle`, where its outermost place starts, and the dictionary is
 // opened. Each schema field's id in it is in the table that was lent.
-#[derive(Drop)]
+#[derive(Clone, Copy)]
 pub struct RowParts {
     pub middle: usize,
     pub names: Names,
 }
 
 // A row's two halves: opened, or not to be parsed under any schema.
-#[derive(Drop)]
+#[derive(Clone, Copy)]
 pub enum Opening {
     At(RowParts),
     Cut,
 }
 
 // What a row is: lawful, with what was read of it; broken, 7; unparsed, 6.
-#[derive(Drop)]
+#[derive(Clone, Copy)]
 pub enum RowJudged {
     Lawful(RowParts),
     Broken,

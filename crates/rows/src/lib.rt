@@ -1,4 +1,6 @@
 // A row judged under its schema: does it parse (6), does it keep rules a to f (7). One walk judges both.
+#![tactic(auto)]
+
 mod judging;
 mod quick;
 mod walker;

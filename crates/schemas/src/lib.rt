@@ -1,4 +1,6 @@
 // Schemas: a lent one judged, and a good one's nodes and fields handed out by position. The schema stays bytes.
+#![tactic(auto)]
+
 mod framing;
 mod judge;
 mod readers;

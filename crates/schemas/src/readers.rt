@@ -9,7 +9,7 @@ ghost use Rattle.schemas.specs.Walk.{frame_next};
 use crate::framing::frame_end;
 
 // The kind of a node: leftover only, a column of a type code, a list, an object with fields.
-#[derive(Drop)]
+#[derive(Clone, Copy)]
 pub enum Kind {
     Leftover,
     Column(u8),

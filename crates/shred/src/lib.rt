@@ -4,6 +4,8 @@
 // handed out, so that the row's length is known before a byte of the caller's buffer is touched. Scratch goes by the
 // document's lengths, so that a small document does not pay for a full-size one. A scalar that is its own normal form needs
 // none of it.
+#![tactic(auto)]
+
 mod single;
 
 ghost use Rattle.std.specs.Prelude.{true, ◌≡◌, ◌≤◌, length};

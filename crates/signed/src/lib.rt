@@ -1,6 +1,8 @@
 // Signed numbers in bytes, by their two's complement: reading and writing on slices at a place.
 //
 // The functions with a `requires` are inner ones: whoever calls them has shown that the bytes are there.
+#![tactic(auto)]
+
 ghost use Rattle.std.specs.Prelude.{◌≡◌, ◌+◌, ◌*◌, ◌≤◌, ◌<◌, ◌^◌, length};
 ghost use Rattle.numbers.specs.Little.{number, number_at, put_at};
 ghost use Rattle.signed.specs.Signed.{signed_of, signed_bytes, SomeWidth};

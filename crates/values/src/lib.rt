@@ -1,4 +1,6 @@
 // Values judged under a dictionary.
+#![tactic(auto)]
+
 mod walker;
 
 pub use walker::{lawful, value};

@@ -8,7 +8,7 @@ use crate::cells::double_bits;
 use paper::{BoxAnswer, LotBox};
 
 // A side of a box.
-#[derive(Drop)]
+#[derive(Clone, Copy)]
 pub enum Side {
     East,
     North,

@@ -1,5 +1,7 @@
 // What crosses to C: the word of each answer (`specs/Boundary.antt`), the sides of a box (`specs/BoxParts.antt`) and what a
 // cell holds (`specs/CellParts.antt`).
+#![tactic(auto)]
+
 mod answers;
 mod boxes;
 mod cells;

@@ -1,5 +1,7 @@
 // A value written in normal form, from the end of a buffer towards its front: what stands behind is written first, so every
 // length is known when it is needed.
+#![tactic(auto)]
+
 mod container;
 mod ids;
 mod offsets;
