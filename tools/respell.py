@@ -175,15 +175,16 @@ def table():
     return {old: spelled for old, spelled in new.items() if old != spelled}, facts
 
 
-def turned(text, new):
+# What a proof of one function says of a step, as `c.before.child-extent.ensures`: the step's name is Rattle's own.
+STEP = re.compile(r"(?:^|[^\w'.-])c(?:\.[\w'-]+)*\.$")
+
+
+def turned(text, new, of_function):
     def one(match):
         token = match.group(0)
-        if token in new:
-            # a label of a proof's record is Rattle's own
-            if "-" in token and match.start() and text[match.start() - 1] == "." and re.search(r"(?:^|[^\w'])[a-z][\w'-]*(?:\.[\w'-]+)*\.$", text[max(0, match.start() - 200): match.start()]):
-                return token
-            return new[token]
-        return token
+        if of_function and token in new and STEP.search(text[max(0, match.start() - 300): match.start()]):
+            return token
+        return new.get(token, token)
 
     return TOKEN.sub(one, text)
 
@@ -196,7 +197,8 @@ def main(argv):
         return
     for path in files(".antt", ".rt", ".edit"):
         text = text_of(path)
-        done = turned(text, new)
+        of_function = path.endswith(".antt") and not is_law_file(path)
+        done = turned(text, new, of_function)
         if done != text:
             with open(path, "w", encoding="utf-8") as f:
                 f.write(done)

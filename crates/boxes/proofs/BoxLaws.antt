@@ -157,10 +157,10 @@ module _ (M : Option Doc) where
     from_four fs f =
         rw (
           box_as fs,
-          side_some (side east fs) (sym (four.is-east fs f)),
-          side_some (side north fs) (sym (four.is-north fs f)),
-          side_some (side south fs) (sym (four.is-south fs f)),
-          side_some (side west fs) (sym (four.is-west fs f)),
+          side_some (side east fs) (sym (four.is_east fs f)),
+          side_some (side north fs) (sym (four.is_north fs f)),
+          side_some (side south fs) (sym (four.is_south fs f)),
+          side_some (side west fs) (sym (four.is_west fs f)),
         )
 
     pub box_read : {r : BoxAnswer} → r ≡ box_read_by (reached (box_of_sides e n s w)) → BoxSaid r

@@ -94,7 +94,7 @@ module _ {levels : ℕ} {ranks schema table area body : List ℕ} {places ids fl
       member_left done one ready =
           let view = left_view ready e in
           let same : view.size ≡ size = size_is ready in
-          rw (view.bytes-are, same, ← own_bytes area at size) done
+          rw (view.bytes_are, same, ← own_bytes area at size) done
 
 -- ---- a place
 
@@ -151,4 +151,4 @@ module _ {levels : ℕ} {ranks schema table area body : List ℕ} {places ids fl
           let view = place_view ready other in
           let same : view.end ≡ to = end_is ready in
           let stands : Stands levels schema node view.ready.there.under = rw is view.ready.there.stands in
-          rw (view.bytes-are, same, ← is) (done view.ready.there.under stands)
+          rw (view.bytes_are, same, ← is) (done view.ready.there.under stands)

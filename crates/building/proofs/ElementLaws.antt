@@ -53,7 +53,7 @@ narrower one less =
       end = one.end;
       ends = one.ends;
       there = one.there;
-      under_is = one.under-is;
+      under_is = one.under_is;
       numbered = one.numbered;
       body_is = one.body_is;
       spare = omega arith;
@@ -107,7 +107,7 @@ module _ {levels : ℕ} {names : Dictionary} {schema table : List ℕ} {node : �
   pieces_long [] place are there h = omega arith
   pieces_long (piece ∷ more) place are there h =
       let first = first_place place there are in
-      let rest = pieces_long more first.end first.more-is (elements_behind body place there first.has first.told refl) first.fits.1 in
+      let rest = pieces_long more first.end first.more_is (elements_behind body place there first.has first.told refl) first.fits.1 in
       let fits = first.fits.0 in
       omega arith
 
@@ -140,7 +140,7 @@ module _ (levels : ℕ) (names normal : Dictionary) (ranks schema table : List �
 
     element_here : At place (3 * length (piece ∷ more) + place) piece
     element_here =
-        let rest = pieces_long body more first.end first.more-is behind first.fits.1 in
+        let rest = pieces_long body more first.end first.more_is behind first.fits.1 in
         let fits = first.fits.0 in
         let same : piece.body ≡ part body (place + 3) first.end = ap (λ (p : Piece). p.body) first.piece_is in
         let one = element_place body place there first.has first.told refl in
@@ -156,7 +156,7 @@ module _ (levels : ℕ) (names normal : Dictionary) (ranks schema table : List �
 
     element_later : (k : ℕ) {p : Piece} → At (get_or (piece_places first.end more) k 0) (3 * length more + first.end) p
         → At (get_or (piece_places (place + 3 + length piece.body) more) k 0) (3 * length (piece ∷ more) + place) p
-    element_later k one = let fits = first.fits.0 in rw first.next-is (narrower one (omega arith))
+    element_later k one = let fits = first.fits.0 in rw first.next_is (narrower one (omega arith))
 
   pub element_at : (pieces : List Piece) (place : ℕ) → pieces_in (drop place body) ≡ pieces → ElementsThere levels names schema table node (drop place body)
       → Numbered names normal ranks (Used pieces) → (k : ℕ) → k < length pieces

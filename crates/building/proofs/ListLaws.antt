@@ -64,7 +64,7 @@ module _ {levels : ℕ} {ranks schema table : List ℕ} {node : ℕ} {body : Lis
   pub list_noting : SomeElements body × (length body ≤ most_row) × (length body ≤ room-places)
   list_noting =
       let there = ready.there in
-      (record { levels = levels; names = ready.names; schema = schema; table = table; node = node; there = there }, ready.enough.small, ready.enough.places-room)
+      (record { levels = levels; names = ready.names; schema = schema; table = table; node = node; there = there }, ready.enough.small, ready.enough.places_room)
 
   abbrev elements : Schema → List (List ℕ)
   elements element = elements_rebuilt element levels ranks schema table node body
@@ -114,7 +114,7 @@ module _ {levels : ℕ} {ranks schema table : List ℕ} {node : ℕ} {body : Lis
       list_in =
           let short = seen.within in
           let room = seen.spotted.room in
-          let same = seen.places-size in
+          let same = seen.places_size in
           omega arith
 
       pub list_frame_in : at < length body
@@ -140,17 +140,17 @@ module _ {levels : ℕ} {ranks schema table : List ℕ} {node : ℕ} {body : Lis
               let size = few in
               let enough = ready.enough in
               let small = enough.small in
-              let places_room = enough.places-room in
-              let ids_room = enough.ids-room in
-              let same_places = seen.places-size in
-              let same_ids = seen.ids-size in
+              let places_room = enough.places_room in
+              let ids_room = enough.ids_room in
+              let same_places = seen.places_size in
+              let same_ids = seen.ids_size in
               rw same_end
               record {
                 names = ready.names;
                 normal = ready.normal;
                 ground = ready.ground;
                 there = one.there;
-                numbered = rw one.under-is one.numbered;
+                numbered = rw one.under_is one.numbered;
                 bytes = part_bytes body ready.bytes (at + 3) one.end;
                 enough = record { small = omega arith; places_room = omega arith; ids_room = omega arith; high = λ n below short. enough.high n (omega arith) short };
               }
@@ -189,9 +189,9 @@ module _ {levels : ℕ} {ranks schema table : List ℕ} {node : ℕ} {body : Lis
             list_next {next} e2 ids-kept {left_ids} ids_back back places_back =
                 let short = seen.within in
                 let room_for = seen.spotted.room in
-                let same_places = seen.places-size in
-                let same_ids = seen.ids-size in
-                let same_out = seen.out-size in
+                let same_places = seen.places_size in
+                let same_ids = seen.ids_size in
+                let same_out = seen.out_size in
                 let element = ready.there.element in
                 let one = put element ready.there.stands in
                 let put_length = told_length one seen.room.within e2 in

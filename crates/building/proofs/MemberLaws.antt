@@ -118,7 +118,7 @@ pub members_long : {levels : ℕ} {names : Dictionary} {schema table : List ℕ}
 members_long body [] field place are there h = omega arith
 members_long {schema = schema} body (piece ∷ more) field place are there h =
     let one = first_member body place there are in
-    let rest = members_long body more (frame_end schema field) one.end one.more-is one.behind one.fits.1 in
+    let rest = members_long body more (frame_end schema field) one.end one.more_is one.behind one.fits.1 in
     let fits = one.fits.0 in
     omega arith
 
@@ -141,14 +141,14 @@ module _ (levels : ℕ) (names normal : Dictionary) (ranks schema table area bod
     place_ready_lem : Numbered names normal ranks (place_ids one.node levels schema table (field_node schema field) piece.body)
         → PlaceReady levels ranks schema table (field_node schema field) (part body (place + 3) one.end) places ids floor
     place_ready_lem numbered =
-        let rest = members_long body more (frame_end schema field) one.end one.more-is one.behind one.fits.1 in
+        let rest = members_long body more (frame_end schema field) one.end one.more_is one.behind one.fits.1 in
         let fits = one.fits.0 in
         record {
           names = names;
           normal = normal;
           ground = ground;
           there = one.here;
-          numbered = rw (one.here-is, ← one.piece_is) numbered;
+          numbered = rw (one.here_is, ← one.piece_is) numbered;
           bytes = part_bytes body bytes (place + 3) one.end;
           enough = enough _ (rw (length-take, length-drop) (omega arith));
         }
@@ -172,7 +172,7 @@ module _ (levels : ℕ) (names normal : Dictionary) (ranks schema table area bod
     unfolding place_ready_lem
     ready_here id numbered h =
         let same : place_rebuilt one.here.under levels ranks schema table (field_node schema field) (part body (place + 3) one.end) ≡ HereBytes =
-        ap (λ (u : Schema). place_rebuilt u levels ranks schema table (field_node schema field) (part body (place + 3) one.end)) one.here-is
+        ap (λ (u : Schema). place_rebuilt u levels ranks schema table (field_node schema field) (part body (place + 3) one.end)) one.here_is
         ∙ ap (place_rebuilt one.node levels ranks schema table (field_node schema field)) (sym one.piece_is) in
         subst (λ (s : List ℕ). MemberReady levels ranks schema table area body places ids floor place field (record { id = id; bytes = s })) same (place_ready place field one.end id (place_ready_lem numbered) h one.ends)
 
@@ -187,7 +187,7 @@ module _ (levels : ℕ) (names normal : Dictionary) (ranks schema table area bod
           below_held (length ranks) (id.0 ∷ (HereIds ++ LaterIds)) numbered.below id.0 (held_first id.0 (HereIds ++ LaterIds)),
         )
         later
-    present b bs Nowhere known numbered h later = let is = known.looked-is in let z : ◌≡◌ {A = ℕ} 0 1 = cc in absurd (omega arith)
+    present b bs Nowhere known numbered h later = let is = known.looked_is in let z : ◌≡◌ {A = ℕ} 0 1 = cc in absurd (omega arith)
 
     later_numbered : (b : List ℕ) (looked : Looked) → Numbered names normal ranks (add_id b looked (HereIds ++ LaterIds)) → Numbered names normal ranks LaterIds
     unfolding add_id
@@ -203,7 +203,7 @@ module _ (levels : ℕ) (names normal : Dictionary) (ranks schema table area bod
     step_by [] is numbered h later = later
     step_by (b ∷ bs) is numbered h later =
         let long : length piece.body ≡ suc (length bs) = ap length is in
-        let next = one.next-is in
+        let next = one.next_is in
         present b bs (looked_at table field) (one.known (omega arith)) numbered h later
 
     module _ (columns : SchemaFields) (is : there.columns ≡ columns) (numbered : Numbered names normal ranks (member_ids columns levels schema table field (piece ∷ more))) where
@@ -219,7 +219,7 @@ module _ (levels : ℕ) (names normal : Dictionary) (ranks schema table area bod
 
       stepped : 0 < field → Later one.end → InStep Is (field_notes columns schema table field place (piece ∷ more)) (member_places columns levels ranks schema table field (piece ∷ more))
       unfolding field_notes member_places
-      stepped h later = rw same (step_by piece.body refl first_numbered h (subst Later (sym one.next-is) later))
+      stepped h later = rw same (step_by piece.body refl first_numbered h (subst Later (sym one.next_is) later))
 
   pub places_ready : (pieces : List Piece) (field place : ℕ) (columns : SchemaFields) (there : MembersThere levels names schema table field to (drop place body))
       → there.columns ≡ columns → pieces_in (drop place body) ≡ pieces → Numbered names normal ranks (member_ids columns levels schema table field pieces) → 0 < field
@@ -229,5 +229,5 @@ module _ (levels : ℕ) (names normal : Dictionary) (ranks schema table area bod
       let first = one piece more field place there are all in
       let fits = first.fits.0 in
       stepped piece more field place there are all columns is numbered h
-      (places_ready more (frame_end schema field) first.end first.rest first.behind first.behind-is first.more-is
+      (places_ready more (frame_end schema field) first.end first.rest first.behind first.behind_is first.more_is
       (rest_numbered piece more field place there are all columns is numbered) (omega arith) (omega arith))

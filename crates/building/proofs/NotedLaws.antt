@@ -81,13 +81,13 @@ module _ {levels : ℕ} {ranks schema table area body places₀ ids₀ : List �
       pub noted_in : 2 * (i - 1) + 1 < length places
       noted_in =
           let short = seen.within in
-          let room = ready.noted.places-room in
-          let same = seen.places-size in
+          let room = ready.noted.places_room in
+          let same = seen.places_size in
           omega arith
 
       front_at : (k : ℕ) → k < 2 * count → get_or places k 0 ≡ get_or places₀ k 0
       front_at k below =
-          sym (get_or-take (2 * count) places k 0 below) ∙ ap (λ (l : List ℕ). get_or l k 0) seen.places-front ∙ get_or-take (2 * count) places₀ k 0 below
+          sym (get_or-take (2 * count) places k 0 below) ∙ ap (λ (l : List ℕ). get_or l k 0) seen.places_front ∙ get_or-take (2 * count) places₀ k 0 below
 
       module _ (at field : ℕ) (at-is : at ≡ get_or places (2 * (i - 1)) 0) (field_is : field ≡ get_or places (2 * (i - 1) + 1) 0) where
         own : (left-places left_ids : ℕ) → left-places ≡ length places - 2 * count → left_ids ≡ length ids - 2 * count
@@ -96,8 +96,8 @@ module _ {levels : ℕ} {ranks schema table area body places₀ ids₀ : List �
             let short = seen.within in
             let here : at ≡ get_or places₀ (2 * (i - 1)) 0 = at-is ∙ front_at (2 * (i - 1)) (omega arith) in
             let there : field ≡ get_or places₀ (2 * (i - 1) + 1) 0 = field_is ∙ front_at (2 * (i - 1) + 1) (omega arith) in
-            let same_places : left-places ≡ length places₀ - 2 * count = is-places ∙ ap (λ (n : ℕ). n - 2 * count) seen.places-size in
-            let same_ids : left_ids ≡ length ids₀ - 2 * count = is-ids ∙ ap (λ (n : ℕ). n - 2 * count) seen.ids-size in
+            let same_places : left-places ≡ length places₀ - 2 * count = is-places ∙ ap (λ (n : ℕ). n - 2 * count) seen.places_size in
+            let same_ids : left_ids ≡ length ids₀ - 2 * count = is-ids ∙ ap (λ (n : ℕ). n - 2 * count) seen.ids_size in
             rw (here, there, same_places, same_ids) (ready.each (i - 1) (omega arith))
 
         pub noted_member : (left-places left_ids : ℕ) → left-places ≡ length places - 2 * count → left_ids ≡ length ids - 2 * count
@@ -146,10 +146,10 @@ module _ {levels : ℕ} {ranks schema table area body places₀ ids₀ : List �
     noted_few = let few = ready.few in omega arith
 
     pub noted-ids_in : 2 * count ≤ length ids
-    noted-ids_in = let room = ready.noted.ids-room in let same = seen.ids-size in omega arith
+    noted-ids_in = let room = ready.noted.ids_room in let same = seen.ids_size in omega arith
 
     ids_same : numbers 2 count ids ≡ numbers 2 count ids₀
-    ids_same = numbers_front count ids ids₀ noted-ids_in ready.noted.ids-room seen.ids-front
+    ids_same = numbers_front count ids ids₀ noted-ids_in ready.noted.ids_room seen.ids_front
 
     pub noted_ranked : all_below (length ranks) (numbers 2 count ids) ≡ true
     noted_ranked = rw ids_same ready.ranked
@@ -159,7 +159,7 @@ module _ {levels : ℕ} {ranks schema table area body places₀ ids₀ : List �
         → PutAs (object_of ranks ready.all) out₀ last floor end r
     unfolding object_of
     noted_put e {last} {r} head =
-        let ids_are : numbers 2 count ids ≡ map (λ (m : Member). m.id) ready.all = ids_same ∙ ready.noted.ids-are ∙ sym ready.ids-are in
+        let ids_are : numbers 2 count ids ≡ map (λ (m : Member). m.id) ready.all = ids_same ∙ ready.noted.ids_are ∙ sym ready.ids_are in
         put_object (bytes_of ready.all) (seen.parts ready).fits (noted_done e).0 (ranks_at ranks (map (λ (m : Member). m.id) ready.all))
         (rw ids_are at (head (bytes_of ready.all) (lie e) many))
 
@@ -178,19 +178,19 @@ module _ {levels : ℕ} {ranks schema table area body places₀ ids₀ : List �
       (put_mid used (length ids - used) ids back-ids) after next (i - 1)
   noted_next ready {out₀} {places} {ids} {out} {end} {start} {i} seen some_left at field at-is field_is left-places left_ids is-places is-ids put e used is-used back-places places_back back-ids ids_back =
       let short = seen.within in
-      let room_for = ready.noted.places-room in
-      let ids-for = ready.noted.ids-room in
-      let same_places = seen.places-size in
-      let same_ids = seen.ids-size in
+      let room_for = ready.noted.places_room in
+      let ids-for = ready.noted.ids_room in
+      let same_places = seen.places_size in
+      let same_ids = seen.ids_size in
       let one = put (member_in ready.all (i - 1)) (one_ready ready seen some_left at field at-is field_is left-places left_ids is-places is-ids put) in
       record {
         room = told_room one seen.room e;
         within = omega arith;
-        places_front = rw (← is-used) (take_put used (length places - used) places back-places (omega arith)) ∙ seen.places-front;
-        ids_front = rw (← is-used) (take_put used (length ids - used) ids back-ids (omega arith)) ∙ seen.ids-front;
+        places_front = rw (← is-used) (take_put used (length places - used) places back-places (omega arith)) ∙ seen.places_front;
+        ids_front = rw (← is-used) (take_put used (length ids - used) ids back-ids (omega arith)) ∙ seen.ids_front;
         places_size = same_len_mid used (length places - used) places back-places places_back ∙ same_places;
         ids_size = same_len_mid used (length ids - used) ids back-ids ids_back ∙ same_ids;
-        out_size = told_length one seen.room.within e ∙ seen.out-size;
+        out_size = told_length one seen.room.within e ∙ seen.out_size;
         parts =
             λ each.
             parts_next (seen.parts each) (i - 1) (omega arith) (own_put each seen some_left at field at-is field_is left-places left_ids is-places is-ids put) e

@@ -69,8 +69,8 @@ module _ {levels : ℕ} {ranks schema table : List ℕ} {from to : ℕ} {left bo
     head_long : 2 * l.count ≤ length left
     unfolding head_size_of
     head_long =
-        let inside = laid.area-there in
-        let size = laid.area-is in
+        let inside = laid.area_there in
+        let size = laid.area_is in
         let ids : l.count * 1 ≤ l.count * i = mul-le-mul (omega arith) least in
         let offsets : (l.count + 1) * 1 ≤ (l.count + 1) * w = mul-le-mul (omega arith) container.least in
         omega arith
@@ -99,7 +99,7 @@ module _ {levels : ℕ} {ranks schema table : List ℕ} {from to : ℕ} {left bo
         record {
           ids_in = ids_there left c i w container l laid;
           id_least = least;
-          id_most = container.id-most;
+          id_most = container.id_most;
           starts_in = rw laid.width_is at (starts_there left c i w container l laid);
           width_least = container.least;
           width_most = container.most;
@@ -109,10 +109,10 @@ module _ {levels : ℕ} {ranks schema table : List ℕ} {from to : ℕ} {left bo
     pub object_sizes : (length schema ≤ most_schema) × (length body ≤ most_row) × (2 * l.count + length body ≤ room-places) × (2 * l.count + length body ≤ room-ids)
     object_sizes =
         let small = ready.enough.small in
-        let places_room = ready.enough.places-room in
-        let ids_room = ready.enough.ids-room in
+        let places_room = ready.enough.places_room in
+        let ids_room = ready.enough.ids_room in
         let head = head_long in
-        (ready.ground.schema-short, omega arith, omega arith, omega arith)
+        (ready.ground.schema_short, omega arith, omega arith, omega arith)
 
     -- ---- the notes
 
@@ -150,8 +150,8 @@ module _ {levels : ℕ} {ranks schema table : List ℕ} {from to : ℕ} {left bo
             let head = head_long in
             let enough = ready.enough in
             let small = enough.small in
-            let places_room = enough.places-room in
-            let ids_room = enough.ids-room in
+            let places_room = enough.places_room in
+            let ids_room = enough.ids_room in
             record { small = omega arith; places_room = omega arith; ids_room = omega arith; high = λ m below short. enough.high m (omega arith) short }
 
         abbrev Is : ℕ → ℕ → Member → Type 0
@@ -179,7 +179,7 @@ module _ {levels : ℕ} {ranks schema table : List ℕ} {from to : ℕ} {left bo
               noted = noted;
               size = ready_size in_step ∙ sym noted.size;
               ids_are = ready_ids in_step;
-              ranked = rw noted.ids-are (ready_below (length ranks) (λ a f m both. both.1) in_step);
+              ranked = rw noted.ids_are (ready_below (length ranks) (λ a f m both. both.1) in_step);
               few = omega arith;
               each =
                   λ k below.

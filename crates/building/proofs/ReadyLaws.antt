@@ -39,8 +39,8 @@ use Rattle.building.specs.Building.{Bytes, Enough, PlaceReady, LeftObject, Typed
 pub fewer : {size less places ids floor : ℕ} → Enough size places ids floor → less ≤ size → Enough less places ids floor
 fewer enough h =
     let small = enough.small in
-    let places_room = enough.places-room in
-    let ids_room = enough.ids-room in
+    let places_room = enough.places_room in
+    let ids_room = enough.ids_room in
     record { small = omega arith; places_room = omega arith; ids_room = omega arith; high = λ n below short. enough.high n (omega arith) short }
 
 part_size : (s : List ℕ) (from to : ℕ) → from ≤ to → to ≤ length s → length (part s from to) ≡ to - from

@@ -80,7 +80,7 @@ module _ {names : Dictionary} {ids : List ℕ} {width count : ℕ} {schema : Lis
     name_there fields = let inside = (first fields.stand).stands.inside.within in omega arith
 
     pub frame_there : SomeFields schema from to → frame_end schema field ≤ length schema
-    frame_there fields = let here = (first fields.stand).stands in omega (arith, here.frame-in, here.behind.within)
+    frame_there fields = let here = (first fields.stand).stands in omega (arith, here.frame_in, here.behind.within)
 
     pub frame_falls : SomeFields schema from to → (next : ℕ) → next ≡ frame_end schema field → to - next < to - field
     frame_falls fields next is = omega arith
@@ -121,7 +121,7 @@ module _ {names : Dictionary} {ids : List ℕ} {width count : ℕ} {schema : Lis
 
           fields_next : column_names left ≡ field_name schema field ∷ behind
           unfolding column_names
-          fields_next = ap column_names (first stand).are ∙ ap (λ (n : List ℕ). n ∷ behind) (first stand).stands.name-is
+          fields_next = ap column_names (first stand).are ∙ ap (λ (n : List ℕ). n ∷ behind) (first stand).stands.name_is
 
           fields_rise : rising (field_name schema field ∷ behind) ≡ true
           fields_rise = sym (ap rising fields_next) ∙ (seen.further levels columns stand).stand.rise

@@ -62,7 +62,7 @@ and_order true true c d = refl
 module _ {names : Dictionary} {ids : List ℕ} {width count last place i : ℕ} (seen : FieldsSeen names ids width count last place i)
     (total : ℕ) (size : length names ≡ total) (least : 1 ≤ width) (there : count * width ≤ length ids) where
   pub fields_last : last < total
-  fields_last = let below = seen.last-below in omega arith
+  fields_last = let below = seen.last_below in omega arith
 
   pub fields_done : count ≤ i → true ≡ Verdict names (numbers width count ids)
   unfolding all_below rising names_at

@@ -22,13 +22,13 @@ module _ (s : List ℕ) (c i w : ℕ) (container : Container s c i w) where
   spans = container_some s c i w container.fills
 
   pub count_there : (1 + c ≤ length s) × (1 ≤ c) × (c ≤ 4)
-  count_there = (spans.count-there, container.count-least, container.count_most)
+  count_there = (spans.count_there, container.count_least, container.count_most)
 
   -- What the count says is there: ids and offsets together.
   module _ (n : ℕ) (is : n ≡ number_at s 1 c) where
     head_parts : 1 + c + n * i + (n + 1) * w ≤ length s
     unfolding head_size_of
-    head_parts = rw is spans.head-there
+    head_parts = rw is spans.head_there
 
     more : (n + 1) * w ≡ n * w + w
     more = rw (add-one n, suc-mul)
@@ -46,7 +46,7 @@ module _ (s : List ℕ) (c i w : ℕ) (container : Container s c i w) where
     starts_fit = let small = container.small in record { fits = omega (arith, head_parts) }
 
     pub head_asks : (n < 2 ^ 32) × (c ≤ 4) × (i ≤ 4) × (w ≤ 4)
-    head_asks = (omega (arith, count_few), container.count_most, container.id-most, container.most)
+    head_asks = (omega (arith, count_few), container.count_most, container.id_most, container.most)
 
     pub laid_out : (head : ℕ) → (head ≡ head_size_of n c i w) × (head ≤ 2 ^ 36)
         → LaidOut s c i w (record { count = n; starts = 1 + c + n * i; width = w; area = head })
@@ -56,7 +56,7 @@ module _ (s : List ℕ) (c i w : ℕ) (container : Container s c i w) where
           starts_is = refl;
           width_is = refl;
           area_is = h.0;
-          area_there = rw (h.0, is) spans.head-there;
+          area_there = rw (h.0, is) spans.head_there;
         }
 
   module _ (l : Layout) (laid : LaidOut s c i w l) where
@@ -64,10 +64,10 @@ module _ (s : List ℕ) (c i w : ℕ) (container : Container s c i w) where
     n = l.count
 
     pub layout_few : l.count ≤ most_walked
-    layout_few = count_few l.count laid.count-is
+    layout_few = count_few l.count laid.count_is
 
     pub starts_in : l.starts ≤ length s
-    starts_in = omega (arith, head_parts l.count laid.count-is, laid.starts_is)
+    starts_in = omega (arith, head_parts l.count laid.count_is, laid.starts_is)
 
     pub ids_in : 1 + c ≤ length s
     ids_in = count_there.0
@@ -75,14 +75,14 @@ module _ (s : List ℕ) (c i w : ℕ) (container : Container s c i w) where
     -- the run of starts, and the run of ids, are there
     pub starts_there : l.count * l.width ≤ length (rest s l.starts)
     starts_there =
-        let all = head_parts l.count laid.count-is in
-        let one = more l.count laid.count-is in
+        let all = head_parts l.count laid.count_is in
+        let one = more l.count laid.count_is in
         let at = laid.starts_is in
         rw (rest_is s l.starts, laid.width_is, length-drop) (omega arith)
 
     pub ids_there : l.count * i ≤ length (rest s (1 + c))
     ids_there =
-        let all = head_parts l.count laid.count-is in
+        let all = head_parts l.count laid.count_is in
         rw (rest_is s (1 + c), length-drop) (omega arith)
 
     pub width_there : (1 ≤ l.width) × (l.width ≤ 4)
@@ -91,15 +91,15 @@ module _ (s : List ℕ) (c i w : ℕ) (container : Container s c i w) where
     -- they are those of 01
     pub area_same : rest s l.area ≡ area_of c i w s
     unfolding area_of
-    area_same = rest_is s l.area ∙ rw (laid.area-is, laid.count-is)
+    area_same = rest_is s l.area ∙ rw (laid.area_is, laid.count_is)
 
     pub starts_same : numbers l.width l.count (rest s l.starts) ≡ starts_of c i w s
     unfolding starts_of
-    starts_same = rw (rest_is s l.starts, laid.starts_is, laid.width_is, laid.count-is)
+    starts_same = rw (rest_is s l.starts, laid.starts_is, laid.width_is, laid.count_is)
 
     pub ids_same : numbers i l.count (rest s (1 + c)) ≡ ids_of c i s
     unfolding ids_of
-    ids_same = rw (rest_is s (1 + c), laid.count-is)
+    ids_same = rw (rest_is s (1 + c), laid.count_is)
 
     pub area_small : length (rest s l.area) ≤ most_walked
     area_small = let small = container.small in rw (rest_is s l.area, length-drop) (omega arith)

@@ -133,14 +133,14 @@ module _ {area starts : List ℕ} {width count : ℕ} {in_order : Bool} {from su
       pub lengths_sum_fits : count ≤ most_walked → Fits w64 (sum + size)
       lengths_sum_fits most =
           let end : start + size ≤ most_walked = lengths_end in
-          let sum-now : sum ≤ i * most_walked = seen.sum-small in
+          let sum-now : sum ≤ i * most_walked = seen.sum_small in
           record { fits = omega arith }
 
       pub lengths_next : (b : Bool) → b ≡ in_order && eqb start from
           → LengthsSeen area starts width count b (start + size) (sum + size) (place + width) (i + 1)
       lengths_next b f =
           let end : start + size ≤ most_walked = lengths_end in
-          let sum-now : sum ≤ i * most_walked = seen.sum-small in
+          let sum-now : sum ≤ i * most_walked = seen.sum_small in
           record {
             standing = standing_next seen.standing starts least there h;
             from_small = end;

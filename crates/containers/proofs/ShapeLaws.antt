@@ -165,4 +165,4 @@ module _ {s : List ℕ} {c i w : ℕ} (container : Container s c i w) {l : Layou
 
 pub names_asks : {s : List ℕ} {c i w : ℕ} → Container s c i w → {l : Layout} → LaidOut s c i w l → 1 ≤ i
     → (l.count * i ≤ length (rest s (1 + c))) × (1 ≤ i) × (i ≤ 4)
-names_asks {s} {c} {i} {w} container {l} laid least = (ids_there s c i w container l laid, least, container.id-most)
+names_asks {s} {c} {i} {w} container {l} laid least = (ids_there s c i w container l laid, least, container.id_most)

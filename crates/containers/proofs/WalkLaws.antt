@@ -111,7 +111,7 @@ module _ (area : List ℕ) (children : List Child) (marks : List ℕ) (scattered
   -- no mark: no child starts here
   pub walk_unmarked : place < length area → bit_of marks place ≡ 0 → false ≡ every_byte_once (length area) children
   walk_unmarked h e =
-      sym (cut_without_start (length area) place children scattered.within h walked.at-end
+      sym (cut_without_start (length area) place children scattered.within h walked.at_end
       (none_there (starting place children) (sym (scattered.starts place h) ∙ e)))
 
   -- a mark: a child starts here, has its length, and the walk goes on to its end
@@ -133,13 +133,13 @@ module _ (area : List ℕ) (children : List Child) (marks : List ℕ) (scattered
         }
       where
         go : (i : ℕ) → i < place + size → Test (ltb i place) (i < place) (place ≤ i) → 1 ≤ holders i children
-        go i k (passed t before) = walked.passed-held i before
+        go i k (passed t before) = walked.passed_held i before
         go i k (failed t behind) = start_held area place size e children scattered.sized here i behind k
 
   -- at the end of the area
   pub walk_ended : length area ≤ place → place ≤ length area → true ≡ every_byte_once (length area) children
   walk_ended a b =
-      sym (once_by_sum (length area) children (λ i h. walked.passed-held i (omega arith))
+      sym (once_by_sum (length area) children (λ i h. walked.passed_held i (omega arith))
       (total_sizes (length area) children scattered.within ∙ scattered.sum))
 
 -- The walk starts at 0, with nothing passed.

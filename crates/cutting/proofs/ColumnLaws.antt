@@ -98,7 +98,7 @@ module _ (said : Column) (known : column_code said.code ≡ true) where
       go true e = let binary : type ≡ 15 = eqb-true type 15 e in prefixed_cut type s (rw binary binary_reading)
       go false e =
           let parts = payload_parts type s good in
-          rw (fixed_reading type parts.most (eqb-false type 15 e) parts.no-string) (fixed_cut type s parts.least)
+          rw (fixed_reading type parts.most (eqb-false type 15 e) parts.no_string) (fixed_cut type s parts.least)
 
   text_cut : (s : List ℕ) → Cut (text s)
   unfolding scalar_bytes takes cell_bytes column_place text_bytes
@@ -155,7 +155,7 @@ scalar_prefix (payload type s) good kind says = go (eqb type 15) refl says
     go true e reads = rw (prefixed_length type s) (omega arith)
     go false e reads =
         let parts = payload_parts type s good in
-        let fixed = fixed_reading type parts.most (eqb-false type 15 e) parts.no-string in
+        let fixed = fixed_reading type parts.most (eqb-false type 15 e) parts.no_string in
         not_prefixed (λ f. cc) (sym fixed ∙ reads)
 scalar_prefix (text s) good kind says = go (leb (length s) 63) says
   where

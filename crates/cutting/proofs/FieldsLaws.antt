@@ -71,7 +71,7 @@ module _ {levels : ℕ} {ranks schema table : List ℕ} {from to : ℕ} {s : Lis
     first_falls is =
         let inside = first.stands.inside.within in
         let fills = first.stands.fills in
-        let ordered = first.stands.frame-in in
+        let ordered = first.stands.frame_in in
         omega arith
 
     -- ---- the members that were passed on the way to its own
@@ -102,8 +102,8 @@ module _ {levels : ℕ} {ranks schema table : List ℕ} {from to : ℕ} {s : Lis
               good = skipped_good (well_formed ready.depth) (here - k) ready.fs ready.good;
               there = skipped_there ready.names (here - k) ready.fs ready.there;
               short = ready.short;
-              notes_room = rw same-notes ready.notes-room;
-              ids_room = rw same_ids ready.ids-room;
+              notes_room = rw same-notes ready.notes_room;
+              ids_room = rw same_ids ready.ids_room;
             }
 
         abbrev own : List ℕ
@@ -149,7 +149,7 @@ module _ {levels : ℕ} {ranks schema table : List ℕ} {from to : ℕ} {s : Lis
             (skipped_there ready.names (here - k) ready.fs ready.there) (skipped_good (well_formed ready.depth) (here - k) ready.fs ready.good) is-it
 
         pub member_part-there : PartThere s m here
-        member_part-there = member.part-there
+        member_part-there = member.part_there
 
         module _ {node : ℕ} {part : List ℕ} {notes' ids' : ℕ} (node_is : node ≡ field_node schema from) (part_is : part ≡ member_part s m here)
             (same-notes : notes' ≡ notes) (same_ids : ids' ≡ ids) where
@@ -160,8 +160,8 @@ module _ {levels : ℕ} {ranks schema table : List ℕ} {from to : ℕ} {s : Lis
           member_ready =
               let few = short in
               let all = ready.short in
-              let notes_room = ready.notes-room in
-              let ids_room = ready.ids-room in
+              let notes_room = ready.notes_room in
+              let ids_room = ready.ids_room in
               record {
                 names = ready.names;
                 ground = ready.ground;
@@ -171,7 +171,7 @@ module _ {levels : ℕ} {ranks schema table : List ℕ} {from to : ℕ} {s : Lis
                 valued = record {
                   d = member.d;
                   depth = ready.depth;
-                  is = part_is ∙ member.part-is;
+                  is = part_is ∙ member.part_is;
                   good = member.well;
                   there = member.known;
                   short = omega arith;

@@ -66,7 +66,7 @@ element_at names depth (doc d ds) zero below good there =
 element_at names depth (doc d ds) (suc k) below good there =
     let more = element_at names depth ds k (omega arith) (and_both (well_formed depth d) (all_docs (well_formed depth) ds) good).1
     (and_both (names_there names d) (all_names_there names ds) there).1 in
-    record { d = more.d; from_here = more.from-here; bytes = more.bytes; good = more.good; there = more.there }
+    record { d = more.d; from_here = more.from_here; bytes = more.bytes; good = more.good; there = more.there }
 
 none_behind : (names : Dictionary) (ds : Docs) (k : ℕ) → k ≡ length (element_bytes names ds) → behind k ds ≡ no_docs
 unfolding behind element_bytes
@@ -169,8 +169,8 @@ module _ {levels : ℕ} {ranks schema table : List ℕ} {node : ℕ} {s : List �
               let here = one k below in
               let all = ready.valued.short in
               let few : length part ≤ length s = rw part_is (simp (length-take, length-drop) (omega arith)) in
-              let notes_room = ready.valued.notes-room in
-              let ids_room = ready.valued.ids-room in
+              let notes_room = ready.valued.notes_room in
+              let ids_room = ready.valued.ids_room in
               record {
                 names = ready.names;
                 ground = ready.ground;
@@ -236,7 +236,7 @@ module _ {levels : ℕ} {ranks schema table : List ℕ} {node : ℕ} {s : List �
 
       module _ (ready : ListReady levels ranks schema table node s (length notes₀) (length ids₀)) where
         abbrev element_here : PlaceReady levels ranks schema table node part (length notes) (length ids)
-        element_here = element_ready ready told says stand below_count part_is seen.notes-size seen.ids-size
+        element_here = element_ready ready told says stand below_count part_is seen.notes_size seen.ids_size
 
         -- What stands from it on: its place, and those behind it.
         from_here : (ds : Docs) → ready.valued.d ≡ array ds → places_bytes ready.names (cut_all (λ d. cut ready.element d) (behind k ds))
@@ -246,7 +246,7 @@ module _ {levels : ℕ} {ranks schema table : List ℕ} {node : ℕ} {s : List �
             let here = (one ready told says stand k below_count).1 in
             let docs : (opened ready told says).docs ≡ ds = docs_are ready ds is in
             let up : suc k ≡ i = omega arith in
-            let split : behind k ds ≡ doc here.d (behind i ds) = rw (docs, up) at here.from-here in
+            let split : behind k ds ≡ doc here.d (behind i ds) = rw (docs, up) at here.from_here in
             ap (λ (es : Docs). places_bytes ready.names (cut_all (λ d. cut ready.element d) es)) split
 
         pub list_full : q ≡ Full → PutAs (list_cut ready) out₀ after 0 end Full
@@ -265,8 +265,8 @@ module _ {levels : ℕ} {ranks schema table : List ℕ} {node : ℕ} {s : List �
           let done = put (element_here ready) in
           let size = (told_here done e).1.size in
           let most = seen.within in
-          let before-notes = seen.notes-size in
-          let before-ids = seen.ids-size in
+          let before-notes = seen.notes_size in
+          let before-ids = seen.ids_size in
           let below = seen.below in
           record {
             within = omega arith;
@@ -274,7 +274,7 @@ module _ {levels : ℕ} {ranks schema table : List ℕ} {node : ℕ} {s : List �
             below = omega arith;
             notes_size = same-notes ∙ before-notes;
             ids_size = same_ids ∙ before-ids;
-            out_size = told_length done seen.room.within e ∙ seen.out-size;
+            out_size = told_length done seen.room.within e ∙ seen.out_size;
             ends = λ ready ds is. rw (from_here ready ds is) (ends_join (seen.ends ready ds is) fits (told_here (put (element_here ready)) e).1);
           }
 

@@ -75,7 +75,7 @@ module _ {schema : List ℕ} {from to : ℕ} {before out : List ℕ} {end start 
         let here = (first some.stand).stands in
         let inside = here.inside.within in
         let fills = here.fills in
-        let ordered = here.frame-in in
+        let ordered = here.frame_in in
         omega arith
 
     -- One more in front.
@@ -103,7 +103,7 @@ module _ {schema : List ℕ} {from to : ℕ} {before out : List ℕ} {end start 
       missing_next e is =
           record {
             room = told_room one seen.room e;
-            out_size = told_length one seen.room.within e ∙ seen.out-size;
+            out_size = told_length one seen.room.within e ∙ seen.out_size;
             left = λ levels columns stand. record {
               more = (first stand).more;
               stand = rw (← is) at (first stand).stands.behind;

@@ -124,8 +124,8 @@ module _ {levels : ℕ} {ranks schema table : List ℕ} {from to : ℕ} {s : Lis
               good = known.2;
               there = known.3;
               short = ready.valued.short;
-              notes_room = ready.valued.notes-room;
-              ids_room = ready.valued.ids-room;
+              notes_room = ready.valued.notes_room;
+              ids_room = ready.valued.ids_room;
             }
 
         module _ {notes' ids' : ℕ} (same-notes : notes' ≡ notes) (same_ids : ids' ≡ ids) where
@@ -133,8 +133,8 @@ module _ {levels : ℕ} {ranks schema table : List ℕ} {from to : ℕ} {s : Lis
           rest_ready =
               let twice = opened.twice in
               let count = held_count held in
-              let notes_room = ready.valued.notes-room in
-              let ids_room = ready.valued.ids-room in
+              let notes_room = ready.valued.notes_room in
+              let ids_room = ready.valued.ids_room in
               record {
                 names = ready.names;
                 columns = ready.columns;

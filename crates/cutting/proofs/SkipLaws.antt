@@ -69,7 +69,7 @@ module _ {names : Dictionary} {s : List ℕ} {m : Members} where
             few = id.few;
             least = id.least;
             most = id.most;
-            ids_in = id.ids-in;
+            ids_in = id.ids_in;
             small = id.small;
           }
 

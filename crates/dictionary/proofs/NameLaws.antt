@@ -55,7 +55,7 @@ module _ {m : List ℕ} {d : Names} {id : ℕ} (pre : Opened m d × (id < d.coun
         let l = lawful m pre.0.there in
         let n = offsets_length pre.0 in
         rw (is_lower, is_upper, ← area_from)
-        (good_next (name_offsets m) (names_area m) id l.offsets-good (omega arith), good_within (name_offsets m) (names_area m) id l.offsets-good (omega arith))
+        (good_next (name_offsets m) (names_area m) id l.offsets_good_lem (omega arith), good_within (name_offsets m) (names_area m) id l.offsets_good_lem (omega arith))
 
     pub name_is : part (rest m (1 + d.width + (d.count + 1) * d.width)) from to ≡ get_or (names_in m) id []
     unfolding names_in

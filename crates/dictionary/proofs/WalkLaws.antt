@@ -66,14 +66,14 @@ module _ (s : List ℕ) (w n : ℕ) (there : ((n + 1) * w ≤ length s) × (1 �
 
       pub walk_falls : (area : List ℕ) → r < last → false ≡ offsets_good (numbers w (n + 1) s) area
       unfolding offsets_good
-      walk_falls area lt = rw (walk.from-0, step, lt-leb last r lt)
+      walk_falls area lt = rw (walk.from_0, step, lt-leb last r lt)
 
       pub walk_on : last ≤ r → Walk s w n r (place + w) (i + 1)
       walk_on le = record {
         reached = omega arith;
         next = rw (walk.next, add-mul (i + 1) 1 w, one-mul);
         read = at_next;
-        from_0 = walk.from-0;
+        from_0 = walk.from_0;
         never = step ∙ rw (le-leb last r le);
       }
 
@@ -81,7 +81,7 @@ module _ (s : List ℕ) (w n : ℕ) (there : ((n + 1) * w ≤ length s) × (1 �
     unfolding offsets_good
     walk_ends area h =
         let all : i + 1 ≡ length (numbers w (n + 1) s) = let e = count_of in let l = walk.reached in omega arith in
-        rw (walk.from-0, walk.never, chain_last leb 0 (numbers w (n + 1) s) i all, last_at (numbers w (n + 1) s) i all, ← walk.read)
+        rw (walk.from_0, walk.never, chain_last leb 0 (numbers w (n + 1) s) i all, last_at (numbers w (n + 1) s) i all, ← walk.read)
 
 -- ---- names that rise
 

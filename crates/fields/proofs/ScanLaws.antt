@@ -85,7 +85,7 @@ module _ {s : List ℕ} {place : ℕ} {left : List Spot} where
       record {
         tagged = here.tagged;
         more = spots_in s node (field_node s place) ++ (spots_of s columns (frame_end s place) ++ more);
-        first = e ∙ rw (append_assoc (spots_in s node (field_node s place)) (spots_of s columns (frame_end s place)) more, here.name-is);
+        first = e ∙ rw (append_assoc (spots_in s node (field_node s place)) (spots_of s columns (frame_end s place)) more, here.name_is);
         room = field_room here;
         named_in = omega arith;
         rest = node_left levels node (spots_of s columns (frame_end s place) ++ more) inside refl

@@ -54,9 +54,9 @@ module _ (levels : ℕ) (d : Doc) (writable : Writable levels d) where
   pub normal_back : (dictionary_of (normal_form d).metadata ≡ some (names_used d)) × (meaning_of levels (names_used d) (normal_form d).value ≡ some d)
   unfolding normal_form
   normal_back =
-      let few = writable.names-few in (
-        metadata_back (names_used d) (names_rise d) few writable.names-short,
-        value_back (names_used d) (omega arith) levels d writable.good (normal-names_there d) (value_small _ writable.value-fits),
+      let few = writable.names_few in (
+        metadata_back (names_used d) (names_rise d) few writable.names_short,
+        value_back (names_used d) (omega arith) levels d writable.good (normal-names_there d) (value_small _ writable.value_fits),
       )
 
 -- Two documents have the same normal form exactly when they are equal.
@@ -123,11 +123,11 @@ pub accepts : (metadata value : List ℕ) (n : Document) → Accepted metadata v
 unfolding normalise_outcome judged value_judged written writable document_fits normal_form require obtain
 accepts metadata value n a =
     rw (
-      le-leb (length metadata) most_metadata a.metadata-fits,
-      le-leb (length value) most_value a.value-fits,
-      a.metadata-is,
-      a.value-is,
-      le-leb (length (value_bytes (names_used a.d) a.d)) most_value a.written-fits,
+      le-leb (length metadata) most_metadata a.metadata_fits,
+      le-leb (length value) most_value a.value_fits,
+      a.metadata_is,
+      a.value_is,
+      le-leb (length (value_bytes (names_used a.d) a.d)) most_value a.written_fits,
     ) (ap reached a.written_is)
 
 module _ (metadata value : List ℕ) (n : Document) (a : Accepted metadata value n) (bytes : (i : ℕ) → get_or metadata i 0 < 256) where
@@ -137,30 +137,30 @@ module _ (metadata value : List ℕ) (n : Document) (a : Accepted metadata value
   -- the normal metadata is no longer than the lent one
   pub normal_shorter : length (metadata_bytes used) ≤ length metadata
   normal_shorter =
-      never_longer metadata a.names a.metadata-is bytes used (names_rise a.d)
-      (λ name in-used. there_used a.names a.d (decoded-names_there most_levels a.names value a.d a.value-is) name
+      never_longer metadata a.names a.metadata_is bytes used (names_rise a.d)
+      (λ name in-used. there_used a.names a.d (decoded-names_there most_levels a.names value a.d a.value_is) name
       (sym (among_used name a.d) ∙ in-used))
 
   pub accepted_writable : Writable most_levels a.d
   accepted_writable =
       let shorter = normal_shorter in
-      let fit : length metadata ≤ most_metadata = a.metadata-fits in
-      short_writable most_levels a.d (decoded-well_formed most_levels a.names value a.d a.value-is) a.written-fits (omega arith)
+      let fit : length metadata ≤ most_metadata = a.metadata_fits in
+      short_writable most_levels a.d (decoded-well_formed most_levels a.names value a.d a.value_is) a.written_fits (omega arith)
 
   normal_accepted : Accepted (normal_form a.d).metadata (normal_form a.d).value (normal_form a.d)
   unfolding normal_form
   normal_accepted =
       let back = normal_back most_levels a.d accepted_writable in
       let shorter = normal_shorter in
-      let fit : length metadata ≤ most_metadata = a.metadata-fits in
+      let fit : length metadata ≤ most_metadata = a.metadata_fits in
       record {
         names = used;
         d = a.d;
         metadata_fits = omega arith;
-        value_fits = a.written-fits;
+        value_fits = a.written_fits;
         metadata_is = back.0;
         value_is = back.1;
-        written_fits = a.written-fits;
+        written_fits = a.written_fits;
         written_is = refl;
       }
 
@@ -177,7 +177,7 @@ normal_again metadata value n bytes e =
 pub accepted_means : (metadata value : List ℕ) (n : Document) (a : Accepted metadata value n) → check_outcome metadata value ≡ reached a.d
 unfolding check_outcome document_fits judged value_judged require obtain
 accepted_means metadata value n a =
-    rw (le-leb (length metadata) most_metadata a.metadata-fits, le-leb (length value) most_value a.value-fits, a.metadata-is, a.value-is)
+    rw (le-leb (length metadata) most_metadata a.metadata_fits, le-leb (length value) most_value a.value_fits, a.metadata_is, a.value_is)
 
 -- What is in normal form means the same.
 pub normal_means : (metadata value : List ℕ) (n : Document) (a : Accepted metadata value n) → ((i : ℕ) → get_or metadata i 0 < 256)

@@ -168,8 +168,8 @@ module _ (names : Dictionary) where
       go false e h parts =
           let binary : type ≡ 15 → ⊥ = eqb-false type 15 e in
           let size : length s ≡ get_or payload_sizes type 0 = parts.size binary in
-          let is = fixed_reading type parts.most binary parts.no-string in
-          let fills = fixed_filled type s parts.most binary parts.no-string size in
+          let is = fixed_reading type parts.most binary parts.no_string in
+          let fills = fixed_filled type s parts.most binary parts.no_string size in
           (fills, λ levels. filled_meaning levels names ((4 * type) ∷ s) _ fills is ∙ primitive_back type s parts.least parts.scale)
 
   pub scalar_written : (a : Scalar) → scalar_good a ≡ true → length (scalar_bytes a) < 2 ^ 32 → Written names (scalar_bytes a) (scalar a)

@@ -108,7 +108,7 @@ module _ (s : List ℕ) (bytes : Bytes s) (short : length s ≤ most_read) (c i 
   where
     area_rest : head_size_of (number_at s 1 c) c i w + length (area_of c i w s) ≡ length s
     unfolding area_of
-    area_rest = let head = spans.head-there in rw length-drop (omega arith)
+    area_rest = let head = spans.head_there in rw length-drop (omega arith)
 
     pub area_bytes : Bytes (area_of c i w s)
     unfolding area_of

@@ -46,7 +46,7 @@ module _ (schema : List ℕ) (node : ℕ) (body : List ℕ) where
   cell_by first levels Empty frames = refl
   cell_by first levels Leftover frames = absurd (omega (arith, frames.tagged))
   cell_by first levels Typed frames = no_left-ids levels
-  cell_by first levels (Both middle) frames = absurd (omega (arith, frames.first-tag))
+  cell_by first levels (Both middle) frames = absurd (omega (arith, frames.first_tag))
   cell_by first levels Unframed frames = refl
 
   pub cell_plain : at body 0 ≡ 0x42 → eqb (at schema node) 0x10 ≡ true → Plain schema node body

@@ -80,17 +80,17 @@ module _ {schema value : List ℕ} (alone : Alone schema value) where
   Place = place_bytes (names_used Document) (cut Under Document)
 
   stands : Stands most_levels schema 0 Under
-  stands = (schema_stands schema Under alone.normal.node-is).0
+  stands = (schema_stands schema Under alone.normal.node_is).0
 
   valued : Valued (names_used Document) value (length value) (length value)
   valued =
       record {
         d = Document;
         depth = most_levels;
-        is = alone.normal.value-is;
+        is = alone.normal.value_is;
         good = alone.normal.good;
         there = normal-names_there Document;
-        short = alone.normal.value-short;
+        short = alone.normal.value_short;
         notes_room = omega arith;
         ids_room = omega arith;
       }
@@ -99,10 +99,10 @@ module _ {schema value : List ℕ} (alone : Alone schema value) where
   alone_kind = kind_there stands
 
   value_short : length (value_bytes (names_used Document) Document) ≤ most_value
-  value_short = rw alone.normal.value-is at alone.normal.value-short
+  value_short = rw alone.normal.value_is at alone.normal.value_short
 
   pub alone_headed : Headed value
-  alone_headed = rw alone.normal.value-is (value_headed (names_used Document) most_levels Document alone.normal.good value_short)
+  alone_headed = rw alone.normal.value_is (value_headed (names_used Document) most_levels Document alone.normal.good value_short)
 
   -- ---- by the kind of the outermost node
 
@@ -117,16 +117,16 @@ module _ {schema value : List ℕ} (alone : Alone schema value) where
       alone_leftover e = left_over (ap (λ (n : Schema). cut n Document) (leftover_here_lem stands is e))
 
       pub alone_list : k ≡ ListKind → PutAs Place before after 0 end r
-      alone_list e = let here = list_here_lem stands is e in left_over (ap (λ (n : Schema). cut n Document) here.1 ∙ no_list here.0 Document alone.no-array)
+      alone_list e = let here = list_here_lem stands is e in left_over (ap (λ (n : Schema). cut n Document) here.1 ∙ no_list here.0 Document alone.no_array)
 
       pub alone_fields : k ≡ FieldsKind → PutAs Place before after 0 end r
-      alone_fields e = let here = object_here stands is e in left_over (ap (λ (n : Schema). cut n Document) here.1 ∙ no_fields_lem here.0 Document alone.no-object)
+      alone_fields e = let here = object_here stands is e in left_over (ap (λ (n : Schema). cut n Document) here.1 ∙ no_fields_lem here.0 Document alone.no_object)
 
     column_is : {code : ℕ} → k ≡ ColumnKind code → Place ≡ column_place code (reading_of (at value 0)) value
     column_is e =
         let here = column_here_lem stands is e in
         ap (λ (n : Schema). place_bytes (names_used Document) (cut n Document)) here.1
-        ∙ column_cut here.0 here.3.good (names_used Document) most_levels Document alone.normal.good ∙ rw (here.2, ← alone.normal.value-is)
+        ∙ column_cut here.0 here.3.good (names_used Document) most_levels Document alone.normal.good ∙ rw (here.2, ← alone.normal.value_is)
 
     pub alone_column : {code : ℕ} → k ≡ ColumnKind code → {before after : List ℕ} {end : ℕ} {r : Put}
         → PutAs (column_place code (reading_of (at value 0)) value) before after 0 end r → PutAs Place before after 0 end r
@@ -137,7 +137,7 @@ module _ {schema value : List ℕ} (alone : Alone schema value) where
   left_size : (node : Schema) → cut node Document ≡ leftover Document → length (place_bytes (names_used Document) (cut node Document)) ≤ 6 + length value
   unfolding place_bytes place_of
   left_size node same =
-      let is : place_bytes (names_used Document) (cut node Document) ≡ place_of 0x41 value = ap (place_bytes (names_used Document)) same ∙ rw (← alone.normal.value-is) in
+      let is : place_bytes (names_used Document) (cut node Document) ≡ place_of 0x41 value = ap (place_bytes (names_used Document)) same ∙ rw (← alone.normal.value_is) in
       let long = ap length is ∙ place_size 0x41 value in
       omega arith
 
@@ -149,11 +149,11 @@ module _ {schema value : List ℕ} (alone : Alone schema value) where
       go leftover_only here = left_size leftover_only refl
       go (column said) here =
           let is : place_bytes (names_used Document) (cut (column said) Document) ≡ column_place said.code (reading_of (at value 0)) value =
-          column_cut said (column_stands here).good (names_used Document) most_levels Document alone.normal.good ∙ rw (← alone.normal.value-is) in
+          column_cut said (column_stands here).good (names_used Document) most_levels Document alone.normal.good ∙ rw (← alone.normal.value_is) in
           let size = column_size said.code (reading_of (at value 0)) value alone_headed.first in
           rw is size
-      go (list element) here = left_size (list element) (no_list element Document alone.no-array)
-      go (fields columns) here = left_size (fields columns) (no_fields_lem columns Document alone.no-object)
+      go (list element) here = left_size (list element) (no_list element Document alone.no_array)
+      go (fields columns) here = left_size (fields columns) (no_fields_lem columns Document alone.no_object)
 
 -- ---- of every reading of the bytes
 
@@ -170,4 +170,4 @@ module _ {schema value before after : List ℕ} {r : Put}
       → RowAnswered (row_from no_names (take (length before - start) (drop start after))) row row' a
       → (alone : Alone schema value) → RowAnswered (row_outcome alone.normal.node alone.normal.d) row row' a
   alone_answers e answered alone =
-      rw (alone.normal.metadata-is, last_bytes (told_here (put alone) e).1, row_outcome_lem alone.normal.node alone.normal.d (value_short alone)) at answered
+      rw (alone.normal.metadata_is, last_bytes (told_here (put alone) e).1, row_outcome_lem alone.normal.node alone.normal.d (value_short alone)) at answered

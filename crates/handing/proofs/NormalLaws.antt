@@ -72,7 +72,7 @@ module _ {schema metadata value : List ℕ} (normal : Normalised schema metadata
 
   used_few : (length Used ≤ most_names) × (length (joined Used) ≤ most_names)
   used_few =
-      let short : length (metadata_bytes Used) ≤ most_names = rw normal.metadata-is at normal.metadata-short in
+      let short : length (metadata_bytes Used) ≤ most_names = rw normal.metadata_is at normal.metadata_short in
       let hold = metadata_holds Used in
       (omega arith, omega arith)
 
@@ -80,19 +80,19 @@ module _ {schema metadata value : List ℕ} (normal : Normalised schema metadata
   normal_few = used_few.0
 
   pub normal_good : is_there (schema_of schema) ≡ true
-  normal_good = some_there (schema_of schema) normal.node-is
+  normal_good = some_there (schema_of schema) normal.node_is
 
   pub normal_there : is_there (dictionary_of metadata) ≡ true
   normal_there =
       let few = used_few in
-      rw normal.metadata-is
+      rw normal.metadata_is
       (some_there (dictionary_of (metadata_bytes Used)) (metadata_back Used (names_rise normal.d) (omega arith) (omega arith)))
 
   pub normal_flag : flag_set (at metadata 0) ≡ true
-  normal_flag = rw normal.metadata-is (flag_set_lem Used)
+  normal_flag = rw normal.metadata_is (flag_set_lem Used)
 
   names_used_lem : names_in metadata ≡ Used
-  names_used_lem = let few = used_few in rw normal.metadata-is (names_back Used (omega arith) (omega arith))
+  names_used_lem = let few = used_few in rw normal.metadata_is (names_back Used (omega arith) (omega arith))
 
   -- the ids listed in front of a table, so many
   module _ {names : Names} (opened : Opened metadata names) where
@@ -103,7 +103,7 @@ module _ {schema metadata value : List ℕ} (normal : Normalised schema metadata
     count_within = names_within opened
 
     pub count_few : names.count ≤ most_names
-    count_few = names_few opened normal.metadata-short
+    count_few = names_few opened normal.metadata_short
 
     pub normal_tabled : (ranks : List ℕ) {table ids : List ℕ} → ((node : Schema) → schema_of schema ≡ some node → Told (names_in metadata) schema table node 0)
         → length schema / 9 ≤ length table → names.count ≤ length ranks → ids ≡ ids_below (length (take names.count ranks))
@@ -111,7 +111,7 @@ module _ {schema metadata value : List ℕ} (normal : Normalised schema metadata
     normal_tabled ranks {table} {ids} told tabled room listed =
         record {
           normal = normal;
-          told = rw names_used_lem at (told normal.node normal.node-is);
+          told = rw names_used_lem at (told normal.node normal.node_is);
           tabled = tabled;
           ranked = rw (length-append, sizes) (let is = count_used in omega arith);
           own = own;

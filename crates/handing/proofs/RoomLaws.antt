@@ -41,7 +41,7 @@ module _ {ranks schema table metadata value : List ℕ} (ready : Tabled ranks sc
   Place = place_bytes (names_used Document) (cut Under Document)
 
   pub value_short : length (value_bytes (names_used Document) Document) ≤ most_value
-  value_short = rw ready.normal.value-is at ready.normal.value-short
+  value_short = rw ready.normal.value_is at ready.normal.value_short
 
   module _ {notes ids : ℕ} (notes_room : length value ≤ notes) (ids_room : length value ≤ ids) where
     -- what the cutting asks
@@ -55,20 +55,20 @@ module _ {ranks schema table metadata value : List ℕ} (ready : Tabled ranks sc
                 few = normal_few ready.normal;
                 ranked = ready.ranked;
                 own = ready.own;
-                schema_short = ready.normal.schema-short;
+                schema_short = ready.normal.schema_short;
                 tabled = ready.tabled;
               };
           under = Under;
-          stands = (schema_stands schema Under ready.normal.node-is).0;
+          stands = (schema_stands schema Under ready.normal.node_is).0;
           told = ready.told;
           valued =
               record {
                 d = Document;
                 depth = most_levels;
-                is = ready.normal.value-is;
+                is = ready.normal.value_is;
                 good = ready.normal.good;
                 there = normal-names_there Document;
-                short = ready.normal.value-short;
+                short = ready.normal.value_short;
                 notes_room = notes_room;
                 ids_room = ids_room;
               };
@@ -86,7 +86,7 @@ module _ {ranks schema table metadata value : List ℕ} (ready : Tabled ranks sc
       pub place_answers : {start : ℕ} → r ≡ At start → {row row' : List ℕ} {a : RowAnswer}
           → RowAnswered (row_from metadata (take (length before - start) (drop start after))) row row' a → TriedAs Under Document row row' (length before) (Told a)
       place_answers e {a = a} answered =
-          told a (rw (ready.normal.metadata-is, last_bytes (told_here placed e).1, row_outcome_lem Under Document value_short) at answered)
+          told a (rw (ready.normal.metadata_is, last_bytes (told_here placed e).1, row_outcome_lem Under Document value_short) at answered)
 
       pub place_nowhere : r ≡ Full → {row : List ℕ} → TriedAs Under Document row row (length before) NoRoom
       place_nowhere e = let long = told_full placed e in no_room (omega arith) refl

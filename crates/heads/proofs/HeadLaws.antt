@@ -76,7 +76,7 @@ module _ (s : List ℕ) (c i w : ℕ) where
   unfolding container_extent given
   container_is {n} t =
       let head : ℕ = head_size_of (number_at s 1 c) c i w in
-      rw (le-leb (1 + c) (length s) t.count-there, le-leb head (length s) t.head-there, t.spans)
+      rw (le-leb (1 + c) (length s) t.count_there, le-leb head (length s) t.head_there, t.spans)
 
 module _ (s : List ℕ) {c w n : ℕ} where
   pub object_spans : {i : ℕ} → reading_of (at s 0) ≡ ObjectHead c i w → extent s ≡ some n → Spans s c i w n
@@ -131,15 +131,15 @@ module _ (s u : List ℕ) (m : ℕ) (shared : take m s ≡ take m u) where
   container_shared c i w near e =
       let t = container_some s c i w e in
       let head : ℕ = head_size_of (number_at s 1 c) c i w in
-      let inside : head ≤ m = near head (rw t.spans (omega arith)) t.head-there in
+      let inside : head ≤ m = near head (rw t.spans (omega arith)) t.head_there in
       let first : 1 + c ≤ head = head_count (number_at s 1 c) c i w in
       let offset : w ≤ head = head_offset (number_at s 1 c) c i w in
       let count : number_at u 1 c ≡ number_at s 1 c = number_shared 1 c (omega arith) in
       let last : number_at u (head - w) w ≡ number_at s (head - w) w = number_shared (head - w) w (omega arith) in
       container_is u c i w
       (record {
-        count_there = long_shared (1 + c) (omega arith) t.count-there;
-        head_there = rw count (long_shared head inside t.head-there);
+        count_there = long_shared (1 + c) (omega arith) t.count_there;
+        head_there = rw count (long_shared head inside t.head_there);
         spans = rw (count, last) t.spans;
       })
 

@@ -101,25 +101,25 @@ module _ {levels : ℕ} {s : List ℕ} {c i w : ℕ} {area starts : List ℕ} {c
   pub inside_done : count ≤ k → used ≡ mark_ids used₀ (ids_inside (ids_in levels) (area_of c i w s) (children_at (area_of c i w s) (starts_of c i w s)))
   unfolding ids_inside ids_of_all children_at mark_ids
   inside_done past =
-      sym (rw (← seen.same_area, ← seen.same-starts) (seen.whole_is
+      sym (rw (← seen.same_area, ← seen.same_starts) (seen.whole_is
       ∙ ap (λ (l : List ℕ). mark_ids used (ids_inside (ids_in levels) area (children_at area l)))
-      (run_ended seen.standing starts seen.least seen.starts-in past)))
+      (run_ended seen.standing starts seen.least seen.starts_in past)))
 
   module _ (h : k < count) where
     pub next_there : (place + w ≤ length starts) × (1 ≤ w) × (w ≤ 4)
-    next_there = (standing_there seen.standing starts seen.least seen.starts-in h, seen.least, seen.most)
+    next_there = (standing_there seen.standing starts seen.least seen.starts_in h, seen.least, seen.most)
 
     pub next_fits : Fits w64 (place + w)
-    next_fits = let small = seen.starts-small in standing_fits seen.standing starts seen.least seen.starts-in h (omega arith)
+    next_fits = let small = seen.starts_small in standing_fits seen.standing starts seen.least seen.starts_in h (omega arith)
 
     module _ (start : ℕ) (is : start ≡ number_at starts place w) where
       next : drop k (numbers w count starts) ≡ start ∷ drop (k + 1) (numbers w count starts)
-      next = run_next seen.standing starts seen.least seen.starts-in h start is
+      next = run_next seen.standing starts seen.least seen.starts_in h start is
 
       more : More (meaning_of levels seen.names) (ids_in levels) area start (drop (k + 1) (numbers w count starts))
       more =
           good_more (meaning_of levels seen.names) (ids_in levels) area start (drop (k + 1) (numbers w count starts))
-          (sym (ap (λ (l : List ℕ). insides_good (meaning_of levels seen.names) area (children_at area l)) next) ∙ seen.left-good)
+          (sym (ap (λ (l : List ℕ). insides_good (meaning_of levels seen.names) area (children_at area l)) next) ∙ seen.left_good)
 
       pub next_asks : MarkableChild levels area start (length used)
       next_asks = record { names = seen.names; good = more.0; room = seen.room; small = seen.small }
@@ -135,11 +135,11 @@ module _ {levels : ℕ} {s : List ℕ} {c i w : ℕ} {area starts : List ℕ} {c
             same_size = size ∙ seen.same_size;
             least = seen.least;
             most = seen.most;
-            standing = standing_next seen.standing starts seen.least seen.starts-in h;
-            starts_in = seen.starts-in;
-            starts_small = seen.starts-small;
+            standing = standing_next seen.standing starts seen.least seen.starts_in h;
+            starts_in = seen.starts_in;
+            starts_small = seen.starts_small;
             same_area = seen.same_area;
-            same_starts = seen.same-starts;
+            same_starts = seen.same_starts;
             small = seen.small;
             left_good = more.1;
             whole_is = seen.whole_is ∙ ap (λ (l : List ℕ). mark_ids used (ids_inside (ids_in levels) area (children_at area l))) next

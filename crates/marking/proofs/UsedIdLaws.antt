@@ -135,7 +135,7 @@ ids_starts : (s : List ℕ) (c i w n : ℕ) → Spans s c i w n → 1 ≤ i → 
 unfolding ids_of starts_of head_size_of
 ids_starts s c i w n spans id_least least =
     let count : ℕ = number_at s 1 c in
-    let all : 1 + c + count * i + (count + 1) * w ≤ length s = spans.head-there in
+    let all : 1 + c + count * i + (count + 1) * w ≤ length s = spans.head_there in
     let one : (count + 1) * w ≡ count * w + w = rw (add-one count, suc-mul) in
     run_length i count (drop (1 + c) s) id_least (rw length-drop (omega arith))
     ∙ sym (run_length w count (drop (1 + c + count * i) s) least (rw length-drop (omega arith)))

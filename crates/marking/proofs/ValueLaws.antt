@@ -52,7 +52,7 @@ module _ {levels : ℕ} {s : List ℕ} {room : ℕ} (markable : Markable levels 
 
   module _ (r : Reading) (told : r ≡ reading_of (at s 0)) where
     ids_are : (q : Reading) → r ≡ q → ids_in levels s ≡ ids_by (ids_in (levels - 1)) q s
-    ids_are q e = meant.ids-by ∙ ap (λ (x : Reading). ids_by (ids_in (levels - 1)) x s) (sym told ∙ e)
+    ids_are q e = meant.ids_by_lem ∙ ap (λ (x : Reading). ids_by (ids_in (levels - 1)) x s) (sym told ∙ e)
 
     none_marked : (used : List ℕ) → ids_in levels s ≡ [] → used ≡ mark_ids used (ids_in levels s)
     unfolding mark_ids
@@ -124,7 +124,7 @@ module _ {levels : ℕ} {s : List ℕ} {room : ℕ} (markable : Markable levels 
         run_asks = (
           ids_there s c i w object_holds l laid,
           least,
-          object_holds.id-most,
+          object_holds.id_most,
           rw (ids_same s c i w object_holds l laid) (below_more (length markable.names) room (ids_of c i s) markable.room lawful.0),
         )
 

@@ -18,7 +18,7 @@ module _ {s : List ℕ} {m : Members} {k : ℕ} (there : IdThere s m k) where
   id_reach : m.ids + k * m.id + m.id ≤ length s
   id_reach =
       let last = run_there m.id m.count k (m.count * m.id) (k * m.id) (le_refl (m.count * m.id)) there.below refl in
-      let inside = there.ids-in in
+      let inside = there.ids_in in
       omega arith
 
   pub id_place_fits : Fits w64 (k * m.id)
@@ -40,7 +40,7 @@ module _ {s : List ℕ} {m : Members} {k : ℕ} (there : PartThere s m k) where
       let all : ℕ = (m.count + 1) * m.offset in
       let last = run_there m.offset (m.count + 1) (k + 1) all ((k + 1) * m.offset) (le_refl all) (omega arith) refl in
       let one = next_start in
-      let inside = there.starts-in in
+      let inside = there.starts_in in
       omega arith
 
   pub start_place_fits : Fits w64 (k * m.offset)

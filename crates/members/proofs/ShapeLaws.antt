@@ -40,7 +40,7 @@ payload_shape type s good = go (eqb type 15) refl
     go true e = rw (eqb-true type 15 e, binary_reading) prefixed
     go false e =
         let parts = payload_parts type s good in
-        rw (fixed_reading type parts.most (eqb-false type 15 e) parts.no-string) fixed
+        rw (fixed_reading type parts.most (eqb-false type 15 e) parts.no_string) fixed
 
 text_shape : (s : List ℕ) → Shape (scalar (text s)) (reading_of (at (text_bytes s) 0))
 unfolding text_bytes prefixed_bytes

@@ -43,7 +43,7 @@ module _ (first c i w : ℕ) (ids : List ℕ) (parts : List (List ℕ)) (id_size
   offsets = offsets_from 0 parts
 
   count_parts : m.count ≡ length parts
-  count_parts = stand.count-is ∙ laid_count first c i w ids parts id_size counted
+  count_parts = stand.count_is ∙ laid_count first c i w ids parts id_size counted
 
   -- All of the head is there.
   head_in : 1 + c + length parts * i + (length parts + 1) * w + length (joined parts) ≡ length s
@@ -72,12 +72,12 @@ module _ (first c i w : ℕ) (ids : List ℕ) (parts : List (List ℕ)) (id_size
   start_is : (k : ℕ) → k ≤ length parts → start_at s m k ≡ get_or offsets k 0
   start_is k h =
       let size = offsets_length 0 parts in
-      rw (stand.offset-is, starts_are)
+      rw (stand.offset_is, starts_are)
       (run_number s (1 + c + length parts * i) w offsets (joined parts) behind_ids least (offsets_below 0 (256 ^ w) parts (omega arith)) k (omega arith))
 
   area_is : drop m.area s ≡ joined parts
   unfolding area_of
-  area_is = rw (stand.area-is, stand.count-is) (laid_area first c i w ids parts id_size counted)
+  area_is = rw (stand.area_is, stand.count_is) (laid_area first c i w ids parts id_size counted)
 
   module _ (k : ℕ) (h : k < m.count) where
     inside : k + 1 < length offsets
@@ -88,16 +88,16 @@ module _ (first c i w : ℕ) (ids : List ℕ) (parts : List (List ℕ)) (id_size
     part_there =
         let n = count_parts in
         let all = head_in in
-        let area : m.area ≡ head_size_of (length parts) c i w = stand.area-is ∙ rw n in
+        let area : m.area ≡ head_size_of (length parts) c i w = stand.area_is ∙ rw n in
         let from : start_at s m k ≡ get_or offsets k 0 = start_is k (omega arith) in
         let to : start_at s m (k + 1) ≡ get_or offsets (k + 1) 0 = start_is (k + 1) (omega arith) in
         let most-in = good_within offsets (joined parts) k (offsets_good_lem parts) inside in
         record {
           below = h;
           few = few_parts;
-          least = rw stand.offset-is least;
-          most = rw stand.offset-is most;
-          starts_in = rw (starts_are, stand.offset-is, n) (omega arith);
+          least = rw stand.offset_is least;
+          most = rw stand.offset_is most;
+          starts_in = rw (starts_are, stand.offset_is, n) (omega arith);
           small = small;
           rises = rw (from, to) (good_next offsets (joined parts) k (offsets_good_lem parts) inside);
           area_in = omega arith;
@@ -124,16 +124,16 @@ module _ (first c i w : ℕ) (ids : List ℕ) (parts : List (List ℕ)) (id_size
         record {
           below = h;
           few = few_parts;
-          least = rw stand.id-is id_least;
-          most = rw stand.id-is id_most;
-          ids_in = rw (stand.ids-is, stand.id-is, count_parts) (omega arith);
+          least = rw stand.id_is id_least;
+          most = rw stand.id_is id_most;
+          ids_in = rw (stand.ids_is, stand.id_is, count_parts) (omega arith);
           small = small;
         }
 
     id_is : (k : ℕ) → k < m.count → member_id s m k ≡ get_or ns k 0
     id_is k h =
         let n = count_ids in
-        rw (stand.ids-is, stand.id-is)
+        rw (stand.ids_is, stand.id_is)
         (run_number s (1 + c) i ns (numbers_bytes w offsets ++ joined parts) (behind_count ∙ rw ids_are) id_least below k (omega arith))
 
     pub laid_identified : Identified s m ns

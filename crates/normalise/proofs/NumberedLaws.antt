@@ -53,7 +53,7 @@ few_names {m} {names} {v} {ranks} {chosen} {count} n =
 pub ready : {m : List ℕ} {names : Names} {v ranks chosen : List ℕ} {count : ℕ} → Numbered m names v ranks chosen count
     → (room : ℕ) → 2 * length v ≤ room → room ≤ most_walked → Ready most_levels v ranks room room
 ready {m} {names} {v} {ranks} {chosen} {count} n room twice most =
-    let short = n.value-short in
+    let short = n.value_short in
     let grows : length (value_bytes (names_used n.d) n.d) ≤ 2 * length v =
     value_grows most_levels (names_in m) (names_used n.d) v n.d n.means n.bytes (omega arith) (normal-names_there n.d)
     (let few = few_names n in omega arith) in
@@ -144,12 +144,12 @@ module _ {m : List ℕ} {names : Names} {v : List ℕ} (lent : Lent m names v) w
   -- what the marking asks, of a table that has an entry for each name
   pub markable : (size : ℕ) → names.count ≤ size → Markable most_levels v size
   markable size room =
-      let short = lent.value-short in
+      let short = lent.value_short in
       let is = count_is lent.opened in
       record { names = names_in m; meant = lent.meant; room = omega arith; small = omega arith }
 
   pub count_few : names.count ≤ most_names
-  count_few = names_few lent.opened lent.metadata-short
+  count_few = names_few lent.opened lent.metadata_short
 
   pub numbered : ((i : ℕ) → get_or v i 0 < 256) → {before used : List ℕ} → used ≡ mark_ids before (ids_in most_levels v) → before ≡ replicate (length before) 0
       → names.count ≤ length before → {ranks chosen : List ℕ} {picked : ℕ} → Ranked (names_in m) used ranks chosen picked
@@ -166,12 +166,12 @@ module _ {m : List ℕ} {names : Names} {v : List ℕ} (lent : Lent m names v) w
       let names_used_lem : chosen_names m chosen picked ≡ names_used d =
       chosen_used (names_in m) ids below d exact (length before) (omega arith) used marked ranks chosen picked ranked in
       record {
-        choice = picked_chosen lent.opened lent.metadata-short ranked chosen-room;
+        choice = picked_chosen lent.opened lent.metadata_short ranked chosen-room;
         d = d;
         means = means;
         used = names_used_lem;
         ranked = below_more (length (names_in m)) (length ranks) ids (omega arith) below;
         right = ranks_right (names_in m) ids below d exact (length before) (omega arith) used marked ranks chosen picked ranked;
         bytes = bytes;
-        value_short = lent.value-short;
+        value_short = lent.value_short;
       }

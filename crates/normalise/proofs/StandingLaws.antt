@@ -72,7 +72,7 @@ no_choice lent chosen =
       listed = omega arith;
       few = omega arith;
       known = refl;
-      small = lent.metadata-short;
+      small = lent.metadata_short;
       short = omega arith;
     }
 
@@ -83,10 +83,10 @@ pub stands_answers : {m : List ℕ} {names : Names} {v : List ℕ} → Lent m na
 unfolding normal_form names_at holds rising
 stands_answers {m} {names} {v} lent bytes b told e answers d means =
     let standing = told e in
-    let short = lent.value-short in
+    let short = lent.value_short in
     let exact : (name : List ℕ) → among name [] ≡ used_in name d =
-    λ name. ap (λ (ids : List ℕ). among name (names_at (names_in m) ids)) (sym standing.none-used) ∙ ids_used most_levels (names_in m) v d means name in
+    λ name. ap (λ (ids : List ℕ). among name (names_at (names_in m) ids)) (sym standing.none_used) ∙ ids_used most_levels (names_in m) v d means name in
     let right : Right (names_in m) (names_used d) [] (ids_in most_levels v) =
-    λ id held. never (sym (sym (ap (holds id) standing.none-used) ∙ held)) in
+    λ id held. never (sym (sym (ap (holds id) standing.none_used) ∙ held)) in
     let own = sym (standing.same []) ∙ rewritten_is most_levels (names_in m) (names_used d) [] v d means bytes (omega arith) right in
     answers d (names_are d [] refl exact) own

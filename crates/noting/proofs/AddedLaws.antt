@@ -26,17 +26,17 @@ pub record Entered (note : Note) (places ids : List ℕ) (n : ℕ) (places-after
 
 module _ {note : Note} {places ids : List ℕ} {n : ℕ} {places-after ids-after : List ℕ} (entered : Entered note places ids n places-after ids-after) where
   two : 2 * n + 2 ≤ length places
-  two = let room = entered.room.places-room in omega arith
+  two = let room = entered.room.places_room in omega arith
 
   written : suc n * 2 ≤ length ids
-  written = let room = entered.room.ids-room in omega arith
+  written = let room = entered.room.ids_room in omega arith
 
   places_long : length places-after ≡ length places
   places_long = ap length entered.put ∙ simp (length-set)
 
   ids_long : length ids-after ≡ length ids
   ids_long =
-      let room = entered.room.ids-room in
+      let room = entered.room.ids_room in
       let size : length (number_bytes 2 note.id) ≡ 2 = length-number_bytes 2 note.id in
       ap length entered.wrote ∙ length_put ids (2 * n) (number_bytes 2 note.id) (omega arith)
 
@@ -80,9 +80,9 @@ module _ {note : Note} {places ids : List ℕ} {n : ℕ} {places-after ids-after
         noted = λ notes noted.
             record {
               size = ap (λ (k : ℕ). k + 1) noted.size ∙ sym (length-append notes (note ∷ []));
-              places_room = rw places_long entered.room.places-room;
-              ids_room = rw ids_long entered.room.ids-room;
-              ids_are = ids_entered ∙ ap (λ (l : List ℕ). l ++ (note.id ∷ [])) noted.ids-are ∙ sym (map-append (λ (m : Note). m.id) notes (note ∷ []));
+              places_room = rw places_long entered.room.places_room;
+              ids_room = rw ids_long entered.room.ids_room;
+              ids_are = ids_entered ∙ ap (λ (l : List ℕ). l ++ (note.id ∷ [])) noted.ids_are ∙ sym (map-append (λ (m : Note). m.id) notes (note ∷ []));
               place_is = each_entered (λ m. m.place) (λ k. get_or places-after (2 * k) 0) notes noted.size
                   (λ k h. entry_kept (2 * k) (omega arith) ∙ noted.place_is k h) place_entered;
               field_is = each_entered (λ m. m.field) (λ k. get_or places-after (2 * k + 1) 0) notes noted.size
@@ -100,8 +100,8 @@ module _ {first second : List Note} {places₀ ids₀ places₁ ids₁ places₂
       → Added (first ++ second) places₀ ids₀ n₀ places₂ ids₂ n₂
   added_behind a b =
       record {
-        places_size = b.places-size ∙ a.places-size;
-        ids_size = b.ids-size ∙ a.ids-size;
+        places_size = b.places_size ∙ a.places_size;
+        ids_size = b.ids_size ∙ a.ids_size;
         noted = λ notes noted. rw (← append_assoc notes first second) (b.noted (notes ++ first) (a.noted notes noted));
       }
 

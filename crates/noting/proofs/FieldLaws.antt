@@ -95,8 +95,8 @@ module _ {ranks schema table : List ℕ} {from to : ℕ} {left_ids : List ℕ} {
     last_room enough also =
         let added = seen.added in
         record {
-          places_room = omega (arith, added.places-size, seen.few, seen.within, seen.left_in);
-          ids_room = omega (arith, added.ids-size, seen.few, seen.within, seen.left_in);
+          places_room = omega (arith, added.places_size, seen.few, seen.within, seen.left_in);
+          ids_room = omega (arith, added.ids_size, seen.few, seen.within, seen.left_in);
         }
 
     pub members_done : {bound : ℕ} → ((i : ℕ) → get_or ranks i 0 < bound) → {places-after ids-after : List ℕ} {next : ℕ}
@@ -141,14 +141,14 @@ module _ {ranks schema table : List ℕ} {from to : ℕ} {left_ids : List ℕ} {
       member_room enough also =
           let added = seen.added in
           record {
-            places_room = omega (arith, added.places-size, seen.few, fits.1, seen.left_in);
-            ids_room = omega (arith, added.ids-size, seen.few, fits.1, seen.left_in);
+            places_room = omega (arith, added.places_size, seen.few, fits.1, seen.left_in);
+            ids_room = omega (arith, added.ids_size, seen.few, fits.1, seen.left_in);
           }
 
       pub found_there : {looked : Looked} → looked ≡ looked_at table field → {found : InputId} → looked ≡ At found → (found.0 < length ranks) × (found.0 < most_walked)
       found_there is {found} at =
           let known = member_named body place seen.still.there some_left told e present in
-          let same : found ≡ known.id = (let looked_is = known.looked-is in cc) in
+          let same : found ≡ known.id = (let looked_is = known.looked_is in cc) in
           let below : found.0 < length seen.still.names = rw same known.below in
           (omega (arith, seen.still.ranked), omega (arith, seen.still.few))
 

@@ -62,7 +62,7 @@ module _ {ranks lefts : List ℕ} {id : ℕ} {starts : List ℕ} {width from cou
       → LeftAdded ranks (run_notes lefts id starts width count) from count bound places₀ ids₀ n places ids i
   stopped low high =
       let all : low_notes ranks bound (drop from (run_notes lefts id starts width count)) ≡ seen.past =
-      seen.low-is ∙ ap (λ (l : List Note). seen.past ++ l) low ∙ append-nil seen.past in
+      seen.low_is ∙ ap (λ (l : List Note). seen.past ++ l) low ∙ append-nil seen.past in
       record { forward = seen.forward; within = seen.within; left = sym (seen.high_is ∙ high); added = rw all seen.added }
 
   pub left_done : count ≤ i → LeftAdded ranks (run_notes lefts id starts width count) from count bound places₀ ids₀ n places ids i
@@ -74,15 +74,15 @@ module _ {ranks lefts : List ℕ} {id : ℕ} {starts : List ℕ} {width from cou
 
       none : drop i (run_notes lefts id starts width count) ≡ []
       none = left_drop i (numbers id count lefts) (numbers width count starts)
-          ∙ ap (λ (l : List ℕ). left_notes l (drop i (numbers width count starts))) (run_ended standing lefts run.id-least run.ids-in over)
+          ∙ ap (λ (l : List ℕ). left_notes l (drop i (numbers width count starts))) (run_ended standing lefts run.id_least run.ids_in over)
 
   module _ (h : i < count) where
     pub left_room : NoteRoom places₀ ids₀ (n + (count - from)) → NoteRoom places ids (n + (i - from) + 1)
     left_room room =
         let added = seen.added in
         record {
-          places_room = omega (arith, room.places-room, added.places-size, seen.forward);
-          ids_room = omega (arith, room.ids-room, added.ids-size, seen.forward);
+          places_room = omega (arith, room.places_room, added.places_size, seen.forward);
+          ids_room = omega (arith, room.ids_room, added.ids_size, seen.forward);
         }
 
     module _ {input : ℕ} (is : input ≡ number_at lefts (i * id) id) {normal : ℕ} (ranked : normal ≡ get_or ranks input 0) where
@@ -92,7 +92,7 @@ module _ {ranks lefts : List ℕ} {id : ℕ} {starts : List ℕ} {width from cou
       unfolding left_notes
       note_next start at =
           left_drop i (numbers id count lefts) (numbers width count starts)
-          ∙ (rw (number_next lefts run.id-least run.ids-in h input is, number_next starts run.width-least run.starts-in h start at))
+          ∙ (rw (number_next lefts run.id_least run.ids_in h input is, number_next starts run.width_least run.starts_in h start at))
           ∙ ap (λ (l : List Note). record { id = input; place = start; field = 0 } ∷ l) (sym (left_drop (i + 1) (numbers id count lefts) (numbers width count starts)))
 
       pub left_over : bound ≤ normal → LeftAdded ranks (run_notes lefts id starts width count) from count bound places₀ ids₀ n places ids i
@@ -117,7 +117,7 @@ module _ {ranks lefts : List ℕ} {id : ℕ} {starts : List ℕ} {width from cou
             forward = omega (arith, seen.forward);
             within = omega arith;
             past = seen.past ++ (member ∷ []);
-            low_is = seen.low-is ∙ ap (λ (l : List Note). seen.past ++ low_notes ranks bound l) next
+            low_is = seen.low_is ∙ ap (λ (l : List Note). seen.past ++ low_notes ranks bound l) next
                 ∙ ap (λ (l : List Note). seen.past ++ l) (low_more ranks bound member others low)
                 ∙ sym (append_assoc seen.past (member ∷ []) (low_notes ranks bound others));
             high_is = seen.high_is ∙ ap (high_notes ranks bound) next ∙ high_more ranks bound member others low;

@@ -9,7 +9,7 @@ use Rattle.noting.specs.Adding.{NoteRoom, Added, LeftAdded, FieldAdded, high_not
 use Rattle.noting.specs.Notes.{Note, note_rank}
 
 pub less_room : {places ids : List ℕ} {most : ℕ} → NoteRoom places ids most → (fewer : ℕ) → fewer ≤ most → NoteRoom places ids fewer
-less_room room fewer h = record { places_room = omega (arith, room.places-room); ids_room = omega (arith, room.ids-room) }
+less_room room fewer h = record { places_room = omega (arith, room.places_room); ids_room = omega (arith, room.ids_room) }
 
 module _ {ranks : List ℕ} {lefts : List Note} {from count : ℕ} {places₀ ids₀ : List ℕ} {n : ℕ} {places ids : List ℕ} {next bound : ℕ}
     (lower : LeftAdded ranks lefts from count bound places₀ ids₀ n places ids next) where
@@ -17,8 +17,8 @@ module _ {ranks : List ℕ} {lefts : List Note} {from count : ℕ} {places₀ id
   field_room room =
       let added = lower.added in
       record {
-        places_room = omega (arith, room.places-room, added.places-size, lower.forward, lower.within);
-        ids_room = omega (arith, room.ids-room, added.ids-size, lower.forward, lower.within);
+        places_room = omega (arith, room.places_room, added.places_size, lower.forward, lower.within);
+        ids_room = omega (arith, room.ids_room, added.ids_size, lower.forward, lower.within);
       }
 
   pub field_added : (note : Note) → bound ≡ get_or ranks note.id 0 → {places-after ids-after : List ℕ}

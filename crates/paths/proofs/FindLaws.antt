@@ -96,7 +96,7 @@ find_start {names} {value} {path} meant small good =
 
 module _ {names : Dictionary} {value path : List ℕ} {start end at : ℕ} (seen : FindSeen names value path start end at) where
   long : length (here value start end) ≡ end - start
-  long = let order = seen.order in let inside = seen.end-in in rw (length-take, length-drop) (omega arith)
+  long = let order = seen.order in let inside = seen.end_in in rw (length-take, length-drop) (omega arith)
 
   answer : (steps : List Step) → path_of path ≡ some steps
       → find_from names steps 0 value ≡ (and_then (path_of (drop at path)) λ steps. find_from names steps start (here value start end))
@@ -176,7 +176,7 @@ module _ {names : Dictionary} {value path : List ℕ} {start end at : ℕ} (seen
               go x f = let one = then_some x _ f in step_held seen.lawful one.0 (record { start = inside; size = size }) one.2
 
           next_end : (inside + size ≤ end - start) × (start + inside + size ≤ length value)
-          next_end = let fit = next_held.0 in let size_is = long in let top = seen.end-in in let order = seen.order in (omega arith, omega arith)
+          next_end = let fit = next_held.0 in let size_is = long in let top = seen.end_in in let order = seen.order in (omega arith, omega arith)
 
           pub start_fits : Fits w64 (start + inside)
           start_fits = let fit = next_end.1 in let few = seen.few in record { fits = omega arith }

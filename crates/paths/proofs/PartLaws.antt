@@ -61,7 +61,7 @@ module _ (names : Dictionary) (s : List ℕ) (c i w : ℕ) (container : Containe
 
     module _ (l : Layout) (laid : LaidOut s c i w l) where
       head_is : l.area ≡ head_size_of (number_at s 1 c) c i w
-      head_is = laid.area-is ∙ rw laid.count-is
+      head_is = laid.area_is ∙ rw laid.count_is
 
       pub field_fits : Fits w64 (l.area + start)
       field_fits =
@@ -92,7 +92,7 @@ module _ (s : List ℕ) (c w : ℕ) (container : Container s c 0 w) (lawful : is
 
     module _ (l : Layout) (laid : LaidOut s c 0 w l) where
       area_is : l.area ≡ head_size_of (number_at s 1 c) c 0 w
-      area_is = laid.area-is ∙ rw laid.count-is
+      area_is = laid.area_is ∙ rw laid.count_is
 
       pub element_fits : Fits w64 (l.area + start)
       element_fits =

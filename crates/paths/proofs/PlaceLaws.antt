@@ -172,7 +172,7 @@ module _ (names : Dictionary) (c i w : ℕ) (s : List ℕ) (container : Containe
 
   pub field_asks : (l : Layout) → LaidOut s c i w l → {m : List ℕ} {d : Names} → Opened m d
       → Opened m d × (l.count * i ≤ length (rest s (1 + c))) × (1 ≤ i) × (i ≤ 4) × (all_below (length names) (numbers i l.count (rest s (1 + c))) ≡ true)
-  field_asks l laid opened = (opened, ids_there s c i w container l laid, least, container.id-most, rw (ids_same s c i w container l laid) (below))
+  field_asks l laid opened = (opened, ids_there s c i w container l laid, least, container.id_most, rw (ids_same s c i w container l laid) (below))
 
   pub field_is : (l : Layout) → LaidOut s c i w l → (name : List ℕ) (index : ℕ)
       → index ≡ position_in name (names_at names (numbers i l.count (rest s (1 + c)))) → (r : Place)

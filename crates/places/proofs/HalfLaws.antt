@@ -98,9 +98,9 @@ module _ (s : List ℕ) (r : Frame) (told : r ≡ halves_of s) where
           let same : 3 + length first.body ≡ middle = cc in
           let is : two.end ≡ middle = sym two.size ∙ same in
           record {
-            pieces = f ∙ rw (← is, ← two.first-is, ← two.second_is);
-            first_long = rw (← is) two.first-long;
-            second_long = rw (← is) two.second-long;
+            pieces = f ∙ rw (← is, ← two.first_is, ← two.second_is);
+            first_long = rw (← is) two.first_long;
+            second_long = rw (← is) two.second_long;
           }
       go (some (first ∷ second ∷ third ∷ more)) f g = absurd (let z : ◌≡◌ {A = ℕ} 0 1 = cc in omega arith)
 
@@ -122,7 +122,7 @@ module _ (schema : Schema) (s : List ℕ) (middle : ℕ) (h : Halves s middle) w
   Metadata = part s 3 middle
 
   pub metadata_size : length Metadata ≡ middle - 3
-  metadata_size = let fits = h.first-long in let behind = h.second-long in rw (length-take, length-drop) (omega arith)
+  metadata_size = let fits = h.first_long in let behind = h.second_long in rw (length-take, length-drop) (omega arith)
 
   by_halves : row_verdict schema s
       ≡ verdict_of (given (eqb (at s 0) 0x40 && leb (length Metadata) most_metadata)

@@ -188,7 +188,7 @@ pub beside_ready : {levels : ℕ} {readings metadata : List ℕ} {names : Names}
 beside_ready {levels} ready left b is known =
     record {
       opened = ready.opened;
-      readings_are = ready.readings-are;
+      readings_are = ready.readings_are;
       levels = levels;
       node = ready.node;
       stands = ready.stands;
@@ -215,7 +215,7 @@ module _ {readings metadata : List ℕ} {names : Names} {s : List ℕ} {place : 
 
   pub clash_ready : at s place ≡ 0x30 → (from to : ℕ) → from ≡ place + 3 → to ≡ frame_end s place
       → Opened metadata names × Readings readings × LawfulIn (names_in metadata) left × SomeFields s from to
-  clash_ready tag from to begins ends = (ready.opened, ready.readings-are, lawful_left, go ready.node ready.stands (node_at ready.stands))
+  clash_ready tag from to begins ends = (ready.opened, ready.readings_are, lawful_left, go ready.node ready.stands (node_at ready.stands))
     where
       go : (under : Schema) → Stands ready.levels s place under → NodeAt ready.levels s place under → SomeFields s from to
       go leftover_only st (leftover_at here) = absurd (omega (arith, here.tagged))

@@ -81,11 +81,11 @@ module _ (body : List ℕ) where
       two : first.tag ≡ 0x41 → second.tag ≡ 0x42 → TwoPieces body f.end
       two left right =
           record {
-            first_tag = ap (λ (p : Piece). p.tag) (sym f.first-is) ∙ left;
+            first_tag = ap (λ (p : Piece). p.tag) (sym f.first_is) ∙ left;
             second_tag = ap (λ (p : Piece). p.tag) (sym f.second_is) ∙ right;
-            pieces = e ∙ rw (← f.first-is, ← f.second_is);
-            first_long = f.first-long;
-            second_long = f.second-long;
+            pieces = e ∙ rw (← f.first_is, ← f.second_is);
+            first_long = f.first_long;
+            second_long = f.second_long;
           }
 
       go : (b : Bool) → eqb first.tag 0x41 ≡ b → (c : Bool) → eqb second.tag 0x42 ≡ c → Told body (cond (b && c) (Both (3 + length first.body)) Unframed)
@@ -177,7 +177,7 @@ module _ (node : Schema) (levels : ℕ) (names : Dictionary) (body : List ℕ) w
   unfolding and_then place_parts left right verdict_of with_left typed_verdict given
   place_both end told =
       by_parts
-      ∙ rw (told.pieces, told.first-tag, told.second-tag)
+      ∙ rw (told.pieces, told.first_tag, told.second_tag)
       (go (leftover_meaning levels names (part body 3 end)) (typed_under node levels names (part body (end + 3) (length body))))
     where
       kept : (b c : Bool) → cond (not b && c) Lawful Broken ≡ broken_if b (cond c Lawful Broken)
@@ -207,4 +207,4 @@ pub typed_long : (body : List ℕ) {p : Parts} → p ≡ parts_of body → p ≡
 typed_long body is e = let piece : OnePiece body 0x42 = told_by body is e in piece.long
 
 pub both_long : (body : List ℕ) {p : Parts} → p ≡ parts_of body → {middle : ℕ} → p ≡ Both middle → (3 ≤ middle) × (middle + 3 ≤ length body)
-both_long body is {middle} e = let pieces : TwoPieces body middle = told_by body is e in (pieces.first-long, pieces.second-long)
+both_long body is {middle} e = let pieces : TwoPieces body middle = told_by body is e in (pieces.first_long, pieces.second_long)

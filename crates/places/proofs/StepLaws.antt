@@ -88,8 +88,8 @@ module _ (node : Schema) (levels : ℕ) (names : Dictionary) (body : List ℕ) w
       go Leftover t = from_left (leftover_meaning levels names (part body 3 (length body))) (rw (t.pieces, t.tagged) at there) ∙ long t.long
       go TypedPart t = from_typed (typed_under node levels names (part body 3 (length body))) (rw (t.pieces, t.tagged) at there) ∙ long t.long
       go (Both end) t =
-          let behind = t.second-long in
-          from_both (leftover_meaning levels names (part body 3 end)) (typed_under node levels names (part body (end + 3) (length body))) (rw (t.pieces, t.first-tag, t.second-tag) at there) ∙ long (omega arith)
+          let behind = t.second_long in
+          from_both (leftover_meaning levels names (part body 3 end)) (typed_under node levels names (part body (end + 3) (length body))) (rw (t.pieces, t.first_tag, t.second_tag) at there) ∙ long (omega arith)
       go Unframed t = never (sym (some_there none (sym (t (leftover_meaning levels names) (typed_under node levels names)) ∙ there)))
 
   -- Rule e of a list's element.

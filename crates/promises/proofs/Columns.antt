@@ -45,7 +45,7 @@ row_reads_back schema metadata value row room bytes shreds =
     record {
       node = s.node;
       d = s.document.d;
-      schema_is = s.schema-is;
+      schema_is = s.schema_is;
       means = accepted_means metadata value s.form s.document;
       reads = shredded_back s bytes;
     }
@@ -67,7 +67,7 @@ kept_exactly said (both d t) kept = never (sym kept)
 -- What is read of a row of shred: the schema, the document and the cut are those that it was written from.
 module _ {schema metadata value row : List ℕ} (s : Shredded schema metadata value row) (bytes : Bytes metadata) where
   its_node : (node : Schema) → schema_of schema ≡ some node → s.node ≡ node
-  its_node node is = some-injective s.node node (sym s.schema-is ∙ is)
+  its_node node is = some-injective s.node node (sym s.schema_is ∙ is)
 
   cut_at_lem : (node : Schema) (parsed : Row) → schema_of schema ≡ some node → row_of node row ≡ some parsed
       → (path : List Step) (stop : Stop) → place_at node parsed.outermost path ≡ some stop → place_at node (cut node s.document.d) path ≡ some stop

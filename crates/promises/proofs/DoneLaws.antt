@@ -30,7 +30,7 @@ pub document_reached : (outcome : Outcome Document) (metadata_room value_room : 
     → (outcome ≡ reached form) × LongEnough form metadata_room value_room
 unfolding document_answer metadata_written value_written document_room
 document_reached (refused r) metadata_room value_room form done = apart (let e = done.answer in cc)
-document_reached (reached found) metadata_room value_room form done = go _ refl done.answer done.metadata-bytes done.value-bytes
+document_reached (reached found) metadata_room value_room form done = go _ refl done.answer done.metadata_bytes done.value_bytes_of
   where
     go : (b : Bool) → leb (length found.metadata) metadata_room && leb (length found.value) value_room ≡ b
         → cond b (DocumentAnswer.Done (length found.metadata) (length found.value)) (DocumentAnswer.Short (length found.metadata) (length found.value))
@@ -58,7 +58,7 @@ reached_document outcome metadata_room value_room form is room =
 pub row_reached : (outcome : Outcome (List ℕ)) (room : ℕ) (row : List ℕ) → RowDone outcome room row → (outcome ≡ reached row) × (length row ≤ room)
 unfolding row_answer row_written
 row_reached (refused r) room row done = apart (let e = done.answer in cc)
-row_reached (reached found) room row done = go _ refl done.answer done.row-bytes
+row_reached (reached found) room row done = go _ refl done.answer done.row_bytes
   where
     go : (b : Bool) → leb (length found) room ≡ b → cond b (RowAnswer.Done (length found)) (RowAnswer.Short (length found)) ≡ RowAnswer.Done (length row)
         → cond b found [] ≡ row → (reached found ≡ reached row) × (length row ≤ room)

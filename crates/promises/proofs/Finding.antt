@@ -53,15 +53,15 @@ part_means : (metadata value : List ℕ) (d : Doc) (c : Checked metadata value d
 unfolding check_outcome document_fits judged value_judged require obtain child_bytes
 part_means metadata value d c child e means =
     let size : child.start + child.size - child.start ≡ child.size = omega arith in
-    let room = leb-true (length value) most_value c.value-fits in
+    let room = leb-true (length value) most_value c.value_fits in
     let short : length (take child.size (drop child.start value)) ≤ most_value = rw (length-take, length-drop) (omega arith) in
-    rw (size, c.metadata-fits, le-leb (length (take child.size (drop child.start value))) most_value short, c.names-are, means)
+    rw (size, c.metadata_fits, le-leb (length (take child.size (drop child.start value))) most_value short, c.names_are, means)
 
 pub find_tells : Find-Tells
 unfolding find_answer find_outcome document_fits judged value_judged require obtain
 find_tells metadata value path d steps means short path-is =
     let c = checked metadata value d means in
-    rw (c.metadata-fits, c.value-fits, le-leb (length path) most_path short, c.names-are, c.means, path-is)
+    rw (c.metadata_fits, c.value_fits, le-leb (length path) most_path short, c.names_are, c.means, path-is)
     (go c (find_led c.names value steps most_levels 0 value d (take-length value) c.means))
   where
     go : (c : Checked metadata value d) {x : Option Child} {y : Option Doc} → FoundIn c.names most_levels value x y → Tells metadata value (found_by (reached x)) y

@@ -60,7 +60,7 @@ row_parts_lem node row parsed bytes reads =
         let same : record { names = names.0; outermost = place.0 } ≡ parsed = some-injective _ parsed place.2 in
         record {
           metadata = first.body;
-          bytes = rw frames.first-is (bytes_take (frames.end - 3) (drop 3 row) (bytes_drop 3 row bytes));
+          bytes = rw frames.first_is (bytes_take (frames.end - 3) (drop 3 row) (bytes_drop 3 row bytes));
           short = leb-true (length first.body) most_metadata (and_both (eqb first.tag 0x40) _ own.0).1;
           names_are = names.1 ∙ ap (λ (r : Row). some r.names) same;
           piece = second;
@@ -109,7 +109,7 @@ row_rebuilds schema row form bytes e node parsed is reads =
     let third = require_reached _ (leb (length (normal_form d).value) most_value) _ second.1 in
     let parts = row_parts_lem node row parsed bytes reads in
     let sound = row_sound node row parsed (schema_good schema node is) parts second.0 in
-    let shorter = metadata_shorter parts.metadata parsed.names parts.names-are parts.bytes d sound.there in
+    let shorter = metadata_shorter parts.metadata parsed.names parts.names_are parts.bytes d sound.there in
     let short = parts.short in
     record {
       lawful = second.0;
@@ -128,4 +128,4 @@ rebuilt_again schema row form bytes e =
     let second = obtain_reached _ (schema_of schema) _ first.1 in
     let third = obtain_reached _ (row_of second.0 row) _ second.2 in
     let r = row_rebuilds schema row form bytes e second.0 third.0 second.1 third.1 in
-    accepted_written form.metadata form.value (row_meaning second.0 third.0) r.means ∙ r.is-written
+    accepted_written form.metadata form.value (row_meaning second.0 third.0) r.means ∙ r.is_written

@@ -69,7 +69,7 @@ taken_cut said (object fs) taken = never (sym taken)
 pub not_left_over : Not-Left-Over
 not_left_over schema metadata value row room bytes shreds said d parsed is means reads taken =
     let back : ReadBack schema metadata value row = row_reads_back schema metadata value row room bytes shreds in
-    let node : back.node ≡ column said = some-injective back.node (column said) (sym back.schema-is ∙ is) in
+    let node : back.node ≡ column said = some-injective back.node (column said) (sym back.schema_is ∙ is) in
     let own : back.d ≡ d = same_reached (sym back.means ∙ means) in
     let read : row_of (column said) row ≡ some (cut_row (column said) d) = rw (node, own) at back.reads in
     let same : cut_row (column said) d ≡ parsed = some-injective (cut_row (column said) d) parsed (sym read ∙ reads) in
@@ -84,11 +84,11 @@ pub done-row_written : Done-Row-Written
 done-row_written schema metadata value before size done node d is means =
     let outcome : Outcome (List ℕ) = shred_outcome schema metadata value in
     let stands : RowStands outcome before size = row_done outcome before size done in
-    let s : Shredded schema metadata value stands.row = shredded schema metadata value stands.row stands.is-reached in
-    let its_node : s.node ≡ node = some-injective s.node node (sym s.schema-is ∙ is) in
+    let s : Shredded schema metadata value stands.row = shredded schema metadata value stands.row stands.is_reached in
+    let its_node : s.node ≡ node = some-injective s.node node (sym s.schema_is ∙ is) in
     let its-doc : s.document.d ≡ d = same_reached (sym (accepted_means metadata value s.form s.document) ∙ means) in
     let row_is : row_bytes node d ≡ stands.row = rw (its_node, its-doc) at s.row_is in
-    rw row_is (stands.row-size, stand_first stands.row-size stands.row_first)
+    rw row_is (stands.row_size, stand_first stands.row_size stands.row_first)
 
 pub done_form_written : Done-Form-Written
 unfolding written
@@ -97,5 +97,5 @@ done_form_written metadata value metadata_before value_before metadata_size_here
     let stands : DocumentStands outcome metadata_before value_before metadata_size_here value_size_here =
     documents_done outcome metadata_before value_before metadata_size_here value_size_here done in
     let is : normal_form d ≡ stands.document =
-    one_reached (require_reached _ (writable d) _ (sym (accepted_written metadata value d means) ∙ stands.is-reached)).1 in
-    rw is (stand_first stands.metadata-size stands.metadata-first, stand_first stands.value-size stands.value-first)
+    one_reached (require_reached _ (writable d) _ (sym (accepted_written metadata value d means) ∙ stands.is_reached)).1 in
+    rw is (stand_first stands.metadata_size stands.metadata_first, stand_first stands.value_size stands.value_first)

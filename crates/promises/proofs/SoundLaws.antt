@@ -187,14 +187,14 @@ module _ (names : Dictionary) where
           → SoundFields levels (insert_field_by o name d first e more (insert_field name d more))
       go Less parts rest = sound_field levels name d (field first e more) named_there one all
       go Equal parts rest = sound_field levels name d more named_there one parts.all
-      go Greater parts rest = sound_field levels first e (insert_field name d more) parts.named-there parts.one rest
+      go Greater parts rest = sound_field levels first e (insert_field name d more) parts.named_there parts.one rest
 
   sound_merge : (levels : ℕ) (left others : Fields) → SoundFields levels left → SoundFields levels others → SoundFields levels (merge left others)
   unfolding merge
   sound_merge levels no_fields others left_sound sound = sound
   sound_merge levels (field name d left) others left_sound sound =
       let parts = first_sound levels name d left left_sound in
-      sound_insert levels name d (merge left others) parts.named-there parts.one (sound_merge levels left others parts.all sound)
+      sound_insert levels name d (merge left others) parts.named_there parts.one (sound_merge levels left others parts.all sound)
 
   none_sound : (levels : ℕ) → SoundFields levels no_fields
   unfolding all_members field_names_there

@@ -56,9 +56,9 @@ first_given from (line ∷ more) rises =
         }
     go false is above lower rest =
         record {
-          own_holds = λ Some-number. passed line more (first more) is ∙ rest.own-holds Some-number;
+          own_holds = λ Some-number. passed line more (first more) is ∙ rest.own_holds Some-number;
           no_lower = λ k h. passed line more k is ∙ rest.no_lower k h;
-          none_holds = λ e k. passed line more k is ∙ rest.none-holds e k;
+          none_holds = λ e k. passed line more k is ∙ rest.none_holds e k;
         }
 
 -- No number below another is given with it.
@@ -67,9 +67,9 @@ none_below table a b given-a given-b h = go (eqb a 0) refl
   where
     go : (zero_is : Bool) → eqb a 0 ≡ zero_is → ⊥
     go true e =
-        let own : condition table b ≡ true = given-b.own-holds (λ f. omega arith) in
-        never (sym own ∙ given-a.none-holds (eqb-true a 0 e) b)
-    go false e = never (sym (given-a.own-holds (eqb-false a 0 e)) ∙ given-b.no_lower a h)
+        let own : condition table b ≡ true = given-b.own_holds (λ f. omega arith) in
+        never (sym own ∙ given-a.none_holds (eqb-true a 0 e) b)
+    go false e = never (sym (given-a.own_holds (eqb-false a 0 e)) ∙ given-b.no_lower a h)
 
 pub one_number : One-Number
 one_number table a b given-a given-b = go (ltb a b) (ltb b a) refl refl

@@ -89,7 +89,7 @@ module _ {names : Dictionary} {first second out : List ℕ} {i j : ℕ} (seen : 
         let place : suc (i + j) ≡ i + 1 + j = omega arith in
         record {
           far_first = omega arith;
-          far_second = seen.far-second;
+          far_second = seen.far_second;
           size = ap length e ∙ length-set out (i + j) (get_or first i 0) ∙ seen.size;
           whole = seen.whole
               ∙ ap (λ (l : List ℕ). take (i + j) out ++ l)
@@ -102,13 +102,13 @@ module _ {names : Dictionary} {first second out : List ℕ} {i j : ℕ} (seen : 
     merge_second failed h id is put =
         let e = put ∙ ap (set out (i + j)) is in
         let size : length out ≡ length first + length second = seen.size in
-        let there : j < length second = takes_other names first second i j r told failed seen.far-first (omega arith) in
+        let there : j < length second = takes_other names first second i j r told failed seen.far_first (omega arith) in
         let left : drop j second ≡ get_or second j 0 ∷ drop (j + 1) second = rw (add-one, drop-cons second j 0 there) in
         let takes : takes_first names (drop i first) (get_or second j 0 ∷ drop (j + 1) second) ≡ false =
         sym (told ∙ ap (takes_first names (drop i first)) left) ∙ failed in
         let place : suc (i + j) ≡ i + (j + 1) = omega arith in
         record {
-          far_first = seen.far-first;
+          far_first = seen.far_first;
           far_second = omega arith;
           size = ap length e ∙ length-set out (i + j) (get_or second j 0) ∙ seen.size;
           whole = seen.whole
@@ -121,6 +121,6 @@ module _ {names : Dictionary} {first second out : List ℕ} {i j : ℕ} (seen : 
   unfolding merged
   merge_done past =
       let size = seen.size in
-      let a = seen.far-first in
-      let b = seen.far-second in
+      let a = seen.far_first in
+      let b = seen.far_second in
       sym (seen.whole ∙ rw (drop_of_length-le first {i = i} (omega arith), drop_of_length-le second {i = j} (omega arith), take_all (i + j) out past) (append-nil out))

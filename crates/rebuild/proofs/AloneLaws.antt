@@ -86,7 +86,7 @@ module _ {schema row table : List ℕ} {parts : RowParts} (judged : Judged schem
     pub alone_short : length Body ≤ most_walked
     alone_short =
         let within = outermost_short row parts in
-        let short = judged.row-short in
+        let short = judged.row_short in
         rw (length-take, length-drop) (omega arith)
 
     pub alone_kind : KindThere schema 0

@@ -57,7 +57,7 @@ module _ {schema row table : List ℕ} {parts : RowParts} (judged : Judged schem
   Names = names_in (metadata_of row parts)
 
   pub place_lawful_lem : (node : Schema) → schema_of schema ≡ some node → place_verdict node most_levels Names (outermost_of row parts) ≡ Lawful
-  place_lawful_lem node is = judged.handed.in_order.comes-to node ∙ judged.lawful node is
+  place_lawful_lem node is = judged.handed.in_order.comes_to node ∙ judged.lawful node is
 
   pub row_there : PlaceThere most_levels Names schema table 0 (outermost_of row parts)
   row_there =
@@ -81,7 +81,7 @@ module _ {schema row table : List ℕ} {parts : RowParts} (judged : Judged schem
   gatherable size room =
       let is = names_are in
       let within = outermost_short row parts in
-      let short = judged.row-short in
+      let short = judged.row_short in
       record { names = Names; there = row_there; room = omega arith; small = omega arith }
 
   pub numbered : Bytes row → {before used : List ℕ}
@@ -146,7 +146,7 @@ module _ {schema row table : List ℕ} {parts : RowParts} {ranks chosen : List �
       record {
         names = names_in (metadata_of row parts);
         normal = names_used (row_doc schema row parts);
-        ground = record { few = omega arith; ranked = omega arith; schema_short = n.judged.schema-short };
+        ground = record { few = omega arith; ranked = omega arith; schema_short = n.judged.schema_short };
         there = there;
         numbered = n.numbered there.under (there_some (schema_of schema) n.judged.good).1;
         bytes = n.bytes;
@@ -159,7 +159,7 @@ module _ {schema row table : List ℕ} {parts : RowParts} {ranks chosen : List �
   unfolding normal_form
   rebuilt_is node is =
       let within = outermost_short row parts in
-      let short = n.judged.row-short in
+      let short = n.judged.row_short in
       place_rebuilt_lem node most_levels (names_in (metadata_of row parts)) (names_used (row_doc schema row parts)) ranks schema table 0 (outermost_of row parts)
       (schema_stands schema node is).0 (n.judged.handed.told node is) (place_lawful_lem n.judged node is) (names_rise (row_doc schema row parts))
       (n.numbered node is) n.bytes (omega arith)

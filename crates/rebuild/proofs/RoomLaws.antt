@@ -42,7 +42,7 @@ module _ {schema row table : List ℕ} {parts : RowParts} {ranks chosen : List �
       → Enough (length (outermost_of row parts)) places ids floor
   long_enough places ids high =
       let within = outermost_short row parts in
-      let short = n.judged.row-short in
+      let short = n.judged.row_short in
       record { small = omega arith; places_room = omega arith; ids_room = omega arith; high = λ n h k. omega arith }
 
 -- ---- what was put

@@ -57,7 +57,7 @@ module _ (left : List ℕ → Option Doc) (right : List ℕ → Option Typed) (b
           let read = then_some (right (part body 3 (length body))) (λ t. some (typed t)) (rw (t.pieces, t.tagged) at e) in
           subst (Held left right body TypedPart) (some-injective (typed read.0) p read.2) (typed_held read.1)
       go (Both middle) t =
-          let meant = then_some (left (part body 3 middle)) _ (rw (t.pieces, t.first-tag, t.second-tag) at e) in
+          let meant = then_some (left (part body 3 middle)) _ (rw (t.pieces, t.first_tag, t.second_tag) at e) in
           beside middle meant.0 meant.1 meant.2
       go Unframed t = never (sym (some_there none (sym (t left right) ∙ e)))
 

@@ -213,4 +213,4 @@ module _ {levels : ℕ} {names : Dictionary} {schema table : List ℕ} {field to
 
           pub member_known : {looked : Looked} → looked ≡ looked_at table field → looked ≡ Nowhere → ⊥
           member_known is-looked nowhere =
-              let known = member_named.looked-is in let z : ◌≡◌ {A = ℕ} 0 1 = cc in omega arith
+              let known = member_named.looked_is in let z : ◌≡◌ {A = ℕ} 0 1 = cc in omega arith

@@ -117,7 +117,7 @@ module _ (names normal : Dictionary) (ranks : List ℕ) where
         let read = object_read levels names left fs told.1 two in
         let one_less : suc levels - 1 ≡ levels = omega arith in
         rw (one_less, read.is)
-        (head_are levels left bytes small told.0 fs read.count-size read.id-size read.offset-size read.is (rw read.is at told.1) (rw read.is at numbered))
+        (head_are levels left bytes small told.0 fs read.count_size_lem read.id_size read.offset_size read.is (rw read.is at told.1) (rw read.is at numbered))
 
 pub left_rises : (levels : ℕ) (names : Dictionary) (left : List ℕ) (fs : Fields) → meaning_of levels names left ≡ some (object fs) → rising (field_names fs) ≡ true
 unfolding well_formed well_formed_by

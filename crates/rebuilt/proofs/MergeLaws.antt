@@ -129,7 +129,7 @@ module _ (normal : Dictionary) (ranks : List ℕ) where
   parts_are : {ms : List Member} {fs : Fields} → AreFields ms fs → map (λ (m : Member). m.bytes) ms ≡ member_bytes normal fs
   unfolding member_bytes
   parts_are none_are = refl
-  parts_are (one_more is are) = rw (is.bytes-are, parts_are are)
+  parts_are (one_more is are) = rw (is.bytes_are, parts_are are)
 
   pub object_is : {ms : List Member} {fs : Fields} → AreFields ms fs → object_of ranks ms ≡ value_bytes normal (object fs)
   unfolding object_of value_bytes

@@ -121,7 +121,7 @@ module _ (under : Schema) (levels : ℕ) (names : Dictionary) (schema table : Li
   by_parts body p e kept (Both middle) t =
       let left : List ℕ = part body 3 middle in
       let s : List ℕ = part body (middle + 3) (length body) in
-      let one = then_some (leftover_meaning levels names left) _ (rw (t.pieces, t.first-tag, t.second-tag) at e) in
+      let one = then_some (leftover_meaning levels names left) _ (rw (t.pieces, t.first_tag, t.second_tag) at e) in
       let other = then_some (typed_under under levels names s) _ one.2 in
       both_use left s one.0 other.0 p one.1 other.1 (some-injective (both one.0 other.0) p other.2) kept
   by_parts body p e kept Unframed t = never (sym (some_there none (sym (t (leftover_meaning levels names) (typed_under under levels names)) ∙ e)))

@@ -75,7 +75,7 @@ module _ (names normal : Dictionary) (ranks schema table : List ℕ) where
         let s : List ℕ = part body (middle + 3) (length body) in
         inside.beside left s keep.fs t
         (record {
-          on_fields = keep.on-fields;
+          on_fields = keep.on_fields;
           apart = keep.apart;
           means = left_means levels names left e ∙ ap some keep.is;
           numbered = numbered_front (ids_in levels left) _ numbered;

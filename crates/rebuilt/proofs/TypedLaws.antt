@@ -107,7 +107,7 @@ module _ (names normal : Dictionary) (ranks schema table : List ℕ) where
   leftover_typed levels node =
       record {
         alone = λ s t here. never (sym (some_there none here.read));
-        beside = λ left s fs t with-left here. never (sym with-left.on-fields);
+        beside = λ left s fs t with-left here. never (sym with-left.on_fields);
       }
 
   cell_alone : (said : Column) (levels node : ℕ) (s : List ℕ) (t : Typed) → TypedHere (column said) levels node s t
@@ -123,7 +123,7 @@ module _ (names normal : Dictionary) (ranks schema table : List ℕ) where
   cell_typed said levels node =
       record {
         alone = λ s t here. cell_alone said levels node s t here;
-        beside = λ left s fs t with-left here. never (sym with-left.on-fields);
+        beside = λ left s fs t with-left here. never (sym with-left.on_fields);
       }
 
   -- ---- a list's places
@@ -165,7 +165,7 @@ module _ (names normal : Dictionary) (ranks schema table : List ℕ) where
   list_typed element levels node each =
       record {
         alone = λ s t here. list_alone element levels node each s t here;
-        beside = λ left s fs t with-left here. never (sym with-left.on-fields);
+        beside = λ left s fs t with-left here. never (sym with-left.on_fields);
       }
 
   -- ---- an object's places, and a leftover beside them

@@ -47,9 +47,9 @@ same_refusal {other = other} {refusal} e = let is : other ≡ refusal = cc in ap
 
 module _ {A : Type 0} (next : Dictionary → Doc → Outcome A) (m v : List ℕ) where
   pub judged_lawful : {names : Names} (l : LawfulDocument m v names)
-      → require (document_fits m v) TooLong (judged m v next) ≡ next (names_in m) l.doc-is
+      → require (document_fits m v) TooLong (judged m v next) ≡ next (names_in m) l.doc_is
   unfolding require judged value_judged obtain check_outcome
-  judged_lawful l = rw (fits (document_fits m v) (judged m v λ names d. reached d) l.outcome, opened_names l.opened-is, l.means)
+  judged_lawful l = rw (fits (document_fits m v) (judged m v λ names d. reached d) l.outcome, opened_names l.opened_is, l.means)
 
   pub judged_refused : (refusal : Refusal) → check_outcome m v ≡ refused refusal → require (document_fits m v) TooLong (judged m v next) ≡ refused refusal
   unfolding check_outcome require judged value_judged obtain
@@ -94,7 +94,7 @@ module _ (m v : List ℕ) (r : Document) (told : r ≡ document_of m v) where
   find_asks names e =
       let l = lawful names e in
       let short = l.short in
-      (l.opened-is, some_there (meaning_of most_levels (names_in m) v) l.means, omega arith)
+      (l.opened_is, some_there (meaning_of most_levels (names_in m) v) l.means, omega arith)
 
   module _ (p : List ℕ) (short : length p ≤ most_path) where
     both_fit : {A : Type 0} (x : Outcome A) → require (document_fits m v && leb (length p) most_path) TooLong x ≡ require (document_fits m v) TooLong x
@@ -123,7 +123,7 @@ module _ (m v : List ℕ) (r : Document) (told : r ≡ document_of m v) where
       → ((d : Doc) → meaning_of most_levels (names_in m) v ≡ some d → b ≡ box_read_by (reached (box_of d))) → b ≡ box_answer m v
   unfolding box_answer box_outcome
   box_read names e b answers =
-      let l = lawful names e in answers l.doc-is l.means ∙ sym (ap box_read_by (judged_lawful _ m v l))
+      let l = lawful names e in answers l.doc_is l.means ∙ sym (ap box_read_by (judged_lawful _ m v l))
 
   pub box_refused : (refusal : Refusal) → r ≡ Refused refusal → BoxAnswer.Refused refusal ≡ box_answer m v
   unfolding box_answer box_outcome box_read_by

@@ -43,7 +43,7 @@ module _ (m v : List ℕ) (r : Document) (told : r ≡ document_of m v) where
   pub normalise_asks : (names : Names) → r ≡ Lawful names → Lent m names v
   normalise_asks names e =
       let l = lawful m v r told names e in
-      record { opened = l.opened-is; meant = some_there (meaning_of most_levels (names_in m) v) l.means; metadata_short = l.metadata-short; value_short = l.short }
+      record { opened = l.opened_is; meant = some_there (meaning_of most_levels (names_in m) v) l.means; metadata_short = l.metadata_short; value_short = l.short }
 
   module _ (first first' second second' : List ℕ) where
     pub normalise_lawful : (names : Names) → r ≡ Lawful names → (a : DocumentAnswer)
@@ -52,7 +52,7 @@ module _ (m v : List ℕ) (r : Document) (told : r ≡ document_of m v) where
     unfolding normalise_outcome
     normalise_lawful names e a answers =
         let l = lawful m v r told names e in
-        rw (judged_lawful (λ ns d. written d) m v l) (answers l.doc-is l.means)
+        rw (judged_lawful (λ ns d. written d) m v l) (answers l.doc_is l.means)
 
   pub normalise_refused : (refusal : Refusal) → r ≡ Refused refusal → (first second : List ℕ)
       → Answered (normalise_outcome m v) first first second second (document.Refused refusal)
@@ -91,11 +91,11 @@ module _ (m v : List ℕ) (bytes : (i : ℕ) → get_or m i 0 < 256) where
       let own : length n.metadata ≡ length (metadata_bytes (names_used a.d)) = ap (λ (k : normal.Document). length k.metadata) (sym a.written_is) in
       let own_value : length n.value ≡ length (value_bytes (names_used a.d) a.d) = ap (λ (k : normal.Document). length k.value) (sym a.written_is) in
       let shorter : length (metadata_bytes (names_used a.d)) ≤ length m = normal_shorter m v n a bytes in
-      let fit : length m ≤ most_metadata = a.metadata-fits in
-      let fit-value : length (value_bytes (names_used a.d) a.d) ≤ most_value = a.written-fits in
+      let fit : length m ≤ most_metadata = a.metadata_fits in
+      let fit-value : length (value_bytes (names_used a.d) a.d) ≤ most_value = a.written_fits in
       record { metadata_fits = omega arith; value_fits = omega arith }
 
   pub answer_fits : (first first' second second' : List ℕ) (answer : DocumentAnswer)
       → Answered (normalise_outcome m v) first first' second second' answer → document_has_room answer ≡ true
   answer_fits first first' second second' answer is =
-      ap document_has_room is.answer-is ∙ lengths_fit (normalise_outcome m v) reached_fits (length first) (length second)
+      ap document_has_room is.answer_is ∙ lengths_fit (normalise_outcome m v) reached_fits (length first) (length second)

@@ -65,17 +65,17 @@ one_find κs lent answer other left left' e f = (settled e f, refl)
 
 pub one_normalise : OneAnswer normalise.ended normalise.Reads.Post
 one_normalise κs lent answer other left left' e f =
-    (settled e.answer-is f.answer-is, two_buffers (settled e.metadata-is f.metadata-is) (settled e.value-is f.value-is))
+    (settled e.answer_is f.answer_is, two_buffers (settled e.metadata_is f.metadata_is) (settled e.value_is f.value_is))
 
 pub one_shred : OneAnswer shred.ended shred.Reads.Post
-one_shred κs lent answer other left left' e f = (settled e.answer-is f.answer-is, one_buffer (settled e.row_is f.row_is))
+one_shred κs lent answer other left left' e f = (settled e.answer_is f.answer_is, one_buffer (settled e.row_is f.row_is))
 
 pub one_judge : OneAnswer judge.ended judge.Reads.Post
 one_judge κs lent answer other left left' e f = (settled e f, refl)
 
 pub one_rebuild : OneAnswer rebuild.ended rebuild.Reads.Post
 one_rebuild κs lent answer other left left' e f =
-    (settled e.answer-is f.answer-is, two_buffers (settled e.metadata-is f.metadata-is) (settled e.value-is f.value-is))
+    (settled e.answer_is f.answer_is, two_buffers (settled e.metadata_is f.metadata_is) (settled e.value_is f.value_is))
 
 pub one_lot_box : OneAnswer lot-box.ended lot-box.Reads.Post
 one_lot_box κs lent answer other left left' e f = (settled e f, refl)

@@ -109,4 +109,4 @@ module _ (s row : List ℕ) where
               let answered = answers node.0 came.0 node.1 came.1 in
               let means = row_means rebuild_asks.handed.in_order node.0 came.0 came.1 s node.1 in
               let size : length (normal_form d).metadata ≤ most_metadata = rw means (metadata_fits rebuild_asks bytes) in
-              (rw came.2 answered, ap document_has_room answered.answer-is ∙ lengths_fit (written d) (written_fits d size) (length first) (length second))
+              (rw came.2 answered, ap document_has_room answered.answer_is ∙ lengths_fit (written d) (written_fits d size) (length first) (length second))

@@ -25,7 +25,7 @@ use Rattle.register.proofs.RowOutcomes.{outcome_schema_long, outcome_row_long, o
 -- What the judge's verdict says.
 pub judged_verdict : {s row table : List ℕ} {r other : RowJudged} → JudgedAs s row table r → r ≡ other → (node : Schema) → schema_of s ≡ some node
     → verdict_in other ≡ row_verdict node row
-judged_verdict told e node is = sym (ap verdict_in e) ∙ told.verdict-is node is
+judged_verdict told e node is = sym (ap verdict_in e) ∙ told.verdict_is node is
 
 -- What the schemas' test says.
 module _ (s : List ℕ) (good : Bool) (is : good ≡ is_there (schema_of s)) where

@@ -78,7 +78,7 @@ module _ (s m v : List ℕ) where
           → ((d : Doc) → meaning_of most_levels (names_in m) v ≡ some d → RowAnswered (Under s d) before after a) → RowAnswered (shred_outcome s m v) before after a
       shred_lawful names e answers =
           let l = lawful m v r told names e in
-          rw (inside ∙ judged_lawful (λ names d. Under s d) m v l) (answers l.doc-is l.means)
+          rw (inside ∙ judged_lawful (λ names d. Under s d) m v l) (answers l.doc_is l.means)
 
 -- ---- the length of an answer has room in a word
 
@@ -112,4 +112,4 @@ module _ (s m v : List ℕ) where
       row_short fourth.0 third.0 bytes fourth.2
 
   pub row_fits : {before after : List ℕ} {a : RowAnswer} → RowAnswered (shred_outcome s m v) before after a → row_has_room a ≡ true
-  row_fits {before} answered = ap row_has_room answered.answer-is ∙ length_fits (shred_outcome s m v) shredded_short (length before)
+  row_fits {before} answered = ap row_has_room answered.answer_is ∙ length_fits (shred_outcome s m v) shredded_short (length before)

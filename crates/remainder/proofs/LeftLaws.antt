@@ -88,7 +88,7 @@ module _ {ranks schema table : List ℕ} {from to : ℕ} {s : List ℕ} {m : Mem
       more = passed.skipped.more
 
       own : id ≡ id_of ready.names first.name
-      own = id_is ∙ first.id-is
+      own = id_is ∙ first.id_is
 
       -- The fields that were passed name none of the members from here on.
       left_same : unnamed (column_names seen.columns) seen.left ≡ unnamed (column_names more) these
@@ -142,9 +142,9 @@ module _ {ranks schema table : List ℕ} {from to : ℕ} {s : List ℕ} {m : Mem
             members = first.behind;
             rise = rising_more first.name (field_names first.more) these_rise;
             there = both_there.1;
-            noted = there_more s m notes n k room seen.noted first.part-there;
+            noted = there_more s m notes n k room seen.noted first.part_there;
             parts_whole = seen.parts_whole ∙ ap (λ (f : Fields). noted_parts s m notes n ++ member_bytes ready.names f) same
-                ∙ one_behind (noted_parts s m notes n) first.part-is (member_bytes ready.names others) (parts_more s m notes n k room);
+                ∙ one_behind (noted_parts s m notes n) first.part_is (member_bytes ready.names others) (parts_more s m notes n k room);
             ids_whole = seen.ids_whole ∙ ap (λ (f : Fields). numbers 2 n ids ++ map (id_of ready.names) (field_names f)) same
                 ∙ one_behind (numbers 2 n ids) own (map (id_of ready.names) (field_names others)) (ids_more ids n id ids_fit low);
           }

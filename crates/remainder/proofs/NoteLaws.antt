@@ -63,8 +63,8 @@ module _ {schema table : List ℕ} {from to : ℕ} {s : List ℕ} {m : Members} 
             let none : last.left ≡ no_fields = no_member last.members over in
             let few = seen.few in
             let within = seen.within in
-            let same = seen.ids-size in
-            let room = some.ready.ids-room in
+            let same = seen.ids_size in
+            let room = some.ready.ids_room in
             record {
               within = omega arith;
               noted = last.noted;
@@ -92,10 +92,10 @@ module _ {schema table : List ℕ} {from to : ℕ} {s : List ℕ} {m : Members} 
     note_number = let below = note_id.few in omega arith
 
     pub note_place : n < length notes
-    note_place = let few = seen.few in let same = seen.notes-size in let room = some.ready.notes-room in omega arith
+    note_place = let few = seen.few in let same = seen.notes_size in let room = some.ready.notes_room in omega arith
 
     pub note_ids : 2 * n + 2 ≤ length ids
-    note_ids = let few = seen.few in let same = seen.ids-size in let room = some.ready.ids-room in omega arith
+    note_ids = let few = seen.few in let same = seen.ids_size in let room = some.ready.ids_room in omega arith
 
   module _ (h : k < m.count) {id : ℕ} (id_is : id ≡ member_id s m k) {next : ℕ} (passed : AllPassed schema table place to id next)
       {names : Bool} (told : names ≡ names_id table next to id) where
@@ -107,8 +107,8 @@ module _ {schema table : List ℕ} {from to : ℕ} {s : List ℕ} {m : Members} 
         (record {
           few = omega arith;
           within = omega arith;
-          notes_size = seen.notes-size;
-          ids_size = seen.ids-size;
+          notes_size = seen.notes_size;
+          ids_size = seen.ids_size;
           each = λ some. seen_named (seen.each some) h id_is (passed.each (fielded (seen.each some))) (sym told ∙ not-false names e);
         })
 
@@ -122,8 +122,8 @@ module _ {schema table : List ℕ} {from to : ℕ} {s : List ℕ} {m : Members} 
         (record {
           few = omega arith;
           within = omega arith;
-          notes_size = length-set notes n k ∙ seen.notes-size;
-          ids_size = length_put ids (2 * n) (number_bytes 2 id) room ∙ seen.ids-size;
+          notes_size = length-set notes n k ∙ seen.notes_size;
+          ids_size = length_put ids (2 * n) (number_bytes 2 id) room ∙ seen.ids_size;
           each = λ some.
               seen_left (seen.each some) h id_is (passed.each (fielded (seen.each some))) (sym told ∙ not-true names e) (note_place some h) (note_ids some h);
         })

@@ -70,8 +70,8 @@ module _ {ranks schema table : List ℕ} {from to : ℕ} {s : List ℕ} {m : Mem
 
   ids_many : length left_ids ≡ count
   ids_many =
-      let room = noted.ids-room in
-      ap length (sym noted.ids-are) ∙ run_length 2 count ids (omega arith) (omega arith)
+      let room = noted.ids_room in
+      ap length (sym noted.ids_are) ∙ run_length 2 count ids (omega arith) (omega arith)
 
   names_many : length (field_names left) ≡ count
   names_many = sym (length-map (field_names left) (id_of names)) ∙ ids_many
@@ -89,13 +89,13 @@ module _ {ranks schema table : List ℕ} {from to : ℕ} {s : List ℕ} {m : Mem
   ids_low = ids_below_lem names left (unnamed_there names (column_names ready.columns) ready.fs ready.there)
 
   own_ranks : ranks_at ranks (numbers 2 count ids) ≡ left_ids
-  own_ranks = rw noted.ids-are (ranks_own ranks (length names) ready.ground.own left_ids ids_low)
+  own_ranks = rw noted.ids_are (ranks_own ranks (length names) ready.ground.own left_ids ids_low)
 
   pub rest_noted : NotedThere s m notes count
   rest_noted = noted.noted
 
   pub rest_ids : (2 * count ≤ length ids) × (all_below (length ranks) (numbers 2 count ids) ≡ true)
-  rest_ids = (noted.ids-room, rw noted.ids-are (below_more (length names) (length ranks) left_ids ready.ground.ranked ids_low))
+  rest_ids = (noted.ids_room, rw noted.ids_are (below_more (length names) (length ranks) left_ids ready.ground.ranked ids_low))
 
   -- ---- nothing is left
 

@@ -50,7 +50,7 @@ module _ (row : List ℕ) (r : Frame) (told : r ≡ halves_of row) where
     h = halved row r told middle e
 
     pub halves_fit : (3 ≤ middle) × (middle + 3 ≤ length row)
-    halves_fit = (h.first-long, h.second-long)
+    halves_fit = (h.first_long, h.second_long)
 
     pub open_other_tag : (at row 0 ≡ 0x40 → ⊥) → OpenedAs row Cut
     open_other_tag other = unopened (λ schema. row_other_tag schema row middle h other)
@@ -73,11 +73,11 @@ module _ (row : List ℕ) (r : Frame) (told : r ≡ halves_of row) where
 
           pub open_at : at row middle ≡ 0x50 → OpenedAs row (At (record { middle = middle; names = names }))
           open_at place =
-              let size : length (part row 3 middle) ≡ middle - 3 = let fits = h.first-long in let behind = h.second-long in rw (length-take, length-drop) (omega arith) in
+              let size : length (part row 3 middle) ≡ middle - 3 = let fits = h.first_long in let behind = h.second_long in rw (length-take, length-drop) (omega arith) in
               opened_row (record { middle = middle; names = names })
               (record {
-                first_long = h.first-long;
-                second_long = h.second-long;
+                first_long = h.first_long;
+                second_long = h.second_long;
                 halved = sym told ∙ e;
                 short = rw size short;
                 opened = metadata_opened;
@@ -94,7 +94,7 @@ module _ {schema row : List ℕ} {parts : RowParts} {table : List ℕ} (ready : 
   ready_opened = ready.in_order.opened
 
   pub ready_halves : (3 ≤ parts.middle) × (parts.middle + 3 ≤ length row)
-  ready_halves = (ready.in_order.first-long, ready.in_order.second-long)
+  ready_halves = (ready.in_order.first_long, ready.in_order.second_long)
 
   pub ready_node : {readings : List ℕ} → Readings readings → TableTells schema row parts table → NodeReady most_levels readings (metadata_of row parts) parts.names schema table 0
   ready_node readings told =
@@ -121,7 +121,7 @@ module _ {schema row : List ℕ} {parts : RowParts} {table : List ℕ} (ready : 
       → Walked schema row parts table v
   walked told v judged-place =
       record {
-        verdict_is = λ node is. judged-place node (schema_stands schema node is).0 ∙ ready.in_order.comes-to node;
+        verdict_is = λ node is. judged-place node (schema_stands schema node is).0 ∙ ready.in_order.comes_to node;
         told = told;
       }
 
@@ -155,20 +155,20 @@ module _ {schema row : List ℕ} {o : Opening} (told : OpenedAs row o) where
       pub judged_lawful : v ≡ Lawful → JudgedAs schema row after (judged.Lawful parts)
       judged_lawful f =
           record {
-            verdict_is = λ node is. sym f ∙ walk.verdict-is node is;
+            verdict_is = λ node is. sym f ∙ walk.verdict_is node is;
             handed = λ other g. let same : parts ≡ other = cc in rw (← same) (record { in_order = row_in told parts e; told = walk.told });
           }
 
       pub judged_broken : v ≡ Broken → JudgedAs schema row after judged.Broken
       judged_broken f =
           record {
-            verdict_is = λ node is. sym f ∙ walk.verdict-is node is;
+            verdict_is = λ node is. sym f ∙ walk.verdict_is node is;
             handed = λ other g. absurd (let z : ◌≡◌ {A = ℕ} 0 1 = cc in omega arith);
           }
 
       pub judged_unparsed : v ≡ Unparsed → JudgedAs schema row after judged.Unparsed
       judged_unparsed f =
           record {
-            verdict_is = λ node is. sym f ∙ walk.verdict-is node is;
+            verdict_is = λ node is. sym f ∙ walk.verdict_is node is;
             handed = λ other g. absurd (let z : ◌≡◌ {A = ℕ} 0 1 = cc in omega arith);
           }

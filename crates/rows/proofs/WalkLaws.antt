@@ -50,7 +50,7 @@ use Rattle.places.specs.declared.verdicts.Verdict.{Verdict}
 -- What the rules of a leftover are judged by.
 pub left_ready_lem : {levels : ℕ} {readings metadata : List ℕ} {names : Names} {s table : List ℕ} {place : ℕ} → NodeReady levels readings metadata names s table place
     → LeftReady levels readings metadata names s place
-left_ready_lem ready = record { opened = ready.opened; readings_are = ready.readings-are; node = ready.node; stands = ready.stands }
+left_ready_lem ready = record { opened = ready.opened; readings_are = ready.readings_are; node = ready.node; stands = ready.stands }
 
 -- ---- what is typed, by the kind of the node
 
@@ -105,7 +105,7 @@ module _ {levels : ℕ} {readings metadata : List ℕ} {names : Names} {s table 
         let here = list_here_lem ready.stands is e in
         record {
           opened = ready.opened;
-          readings_are = ready.readings-are;
+          readings_are = ready.readings_are;
           tabled = ready.tabled;
           node = here.0;
           stands = here.2.inside;
@@ -117,7 +117,7 @@ module _ {levels : ℕ} {readings metadata : List ℕ} {names : Names} {s table 
         let here = object_here ready.stands is e in
         record {
           opened = ready.opened;
-          readings_are = ready.readings-are;
+          readings_are = ready.readings_are;
           tabled = ready.tabled;
           columns = here.0;
           stand = rw ends here.2.inside;
@@ -229,7 +229,7 @@ module _ {levels : ℕ} {names : Dictionary} {s table : List ℕ} {from to : ℕ
     field_node-in = let inside = first.stands.inside.within in omega arith
 
     pub field_frame_in : frame_end s field ≤ length s
-    field_frame_in = let frame = first.stands.frame-in in let all = seen.stand.within in omega arith
+    field_frame_in = let frame = first.stands.frame_in in let all = seen.stand.within in omega arith
 
     pub field_entry : length s / 9 ≤ length table → entry_place field < length table
     field_entry tabled = let inside = first.stands.inside.within in entry_there field (length s) (length table) (omega arith) tabled
@@ -239,7 +239,7 @@ module _ {levels : ℕ} {names : Dictionary} {s table : List ℕ} {from to : ℕ
     field_ready same ready node is =
         record {
           opened = ready.opened;
-          readings_are = ready.readings-are;
+          readings_are = ready.readings_are;
           tabled = ready.tabled;
           node = first.node;
           stands = rw is first.stands.inside;

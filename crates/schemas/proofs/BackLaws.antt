@@ -85,7 +85,7 @@ mutual
       let object = good_object columns levels good in
       let shorter : length (fields_bytes columns) < 65536 = piece_fits (fields columns) fits in
       node_read (fields columns) levels good
-      ∙ rw (fields_pieces columns shorter, fields_back columns (levels - 1) object.inside shorter, some_pieces columns object.some-field, object.rise)
+      ∙ rw (fields_pieces columns shorter, fields_back columns (levels - 1) object.inside shorter, some_pieces columns object.some_field_lem, object.rise)
 
   fields_back : (columns : SchemaFields) (levels : ℕ) → good_fields columns levels ≡ true → length (fields_bytes columns) < 65536
       → field_nodes (node_of levels) (field_pieces columns) ≡ some columns

@@ -54,12 +54,12 @@ module _ {levels : ℕ} {s : List ℕ} {place to : ℕ} where
       let here : FieldHere s place to = field_here s place to framed.0 in
       let node = then_some node? (λ n. and_then more? λ columns. some (named (field_name s place) n columns)) framed.1 in
       let more = then_some more? (λ columns. some (named (field_name s place) node.0 columns)) node.2 in
-      let inside = node_stands levels s (field_node s place) (frame_end s place) node.0 (omega (arith, here.frame-in, stand.within)) node.1 in
+      let inside = node_stands levels s (field_node s place) (frame_end s place) node.0 (omega (arith, here.frame_in, stand.within)) node.1 in
       let same : named (field_name s place) node.0 more.0 ≡ columns = cc more.2 in
       let rise : rising (column_names (named (field_name s place) node.0 more.0)) ≡ true = ap (λ (c : SchemaFields). rising (column_names c)) same ∙ stand.rise in
       let behind : FieldsStand levels s (frame_end s place) to more.0 =
       record {
-        ordered = here.frame-in;
+        ordered = here.frame_in;
         within = stand.within;
         are = more.1;
         rise = rising_more (field_name s place) (column_names more.0) rise;
@@ -71,11 +71,11 @@ module _ {levels : ℕ} {s : List ℕ} {place to : ℕ} where
         are = sym same;
         stands = record {
           tagged = here.tagged;
-          name_tagged = here.name-tagged;
+          name_tagged = here.name_tagged;
           name_is = refl;
           inside = inside.0;
           fills = inside.1;
-          frame_in = here.frame-in;
+          frame_in = here.frame_in;
           behind = behind;
         };
       }
@@ -108,7 +108,7 @@ module _ {levels : ℕ} {s : List ℕ} {place to : ℕ} where
   -- What the readers of a field ask.
   module _ {name : List ℕ} {node : Schema} {more : SchemaFields} (here : FieldStands levels s place to name node more) where
     pub field_framed : frame_end s place ≤ length s
-    field_framed = omega (arith, here.frame-in, here.behind.within)
+    field_framed = omega (arith, here.frame_in, here.behind.within)
 
     pub field_named : field_node s place ≤ length s
     field_named = omega (arith, here.fills, field_framed)

@@ -76,7 +76,7 @@ module _ (s : List ℕ) where
         let object = object_stands stands in
         let inside = object.inside in
         both (level_there stands)
-        (both (both (field_there (first_field inside object.some-field)) inside.rise) (fields_good columns (levels - 1) (place + 3) (frame_end s place) inside))
+        (both (both (field_there (first_field inside object.some_field_lem)) inside.rise) (fields_good columns (levels - 1) (place + 3) (frame_end s place) inside))
 
     pub fields_good : (columns : SchemaFields) (levels place to : ℕ) → FieldsStand levels s place to columns → good_fields columns levels ≡ true
     fields_good no_columns levels place to stand = refl

@@ -133,11 +133,11 @@ module _ {levels : ℕ} {s : List ℕ} {from to last place : ℕ} (seen : Fields
           record {
             last_named = go seen.seen;
             name_in = here.name_in;
-            frame_in = omega (arith, here.frame-in);
+            frame_in = omega (arith, here.frame_in);
           }
         where
           go : {names : List (List ℕ)} → NameBefore s last place names → field_node s last ≤ length s
-          go (first_field e) = rw e (omega (arith, here.name_in, here.frame-in))
+          go (first_field e) = rw e (omega (arith, here.name_in, here.frame_in))
           go (behind_field h k) = k
 
       left : is_there (object_in levels s from to)
@@ -167,8 +167,8 @@ module _ {levels : ℕ} {s : List ℕ} {from to last place : ℕ} (seen : Fields
           fields_next e =
               record {
                 begun = omega (arith, seen.begun);
-                before_end = omega (arith, here.frame-in);
+                before_end = omega (arith, here.frame_in);
                 names = field_name s place ∷ [];
-                seen = behind_field (omega arith) (omega (arith, here.name_in, here.frame-in));
+                seen = behind_field (omega arith) (omega (arith, here.name_in, here.frame_in));
                 whole_is = λ h. left_node ∙ rw (not-false node e);
               }

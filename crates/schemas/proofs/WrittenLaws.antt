@@ -87,11 +87,11 @@ module _ (s : List ℕ) (bytes : (i : ℕ) → at s i < 256) where
     fields_written (named name node more) levels place to stand =
         let here = field_stands stand in
         let node-fills = here.fills in
-        let frame_in = here.frame-in in
+        let frame_in = here.frame_in in
         let within = stand.within in
         let inside : (piece_at s place).body ≡ frame 0x32 name ++ schema_bytes node =
         part_split s (place + 3) (field_node s place) (frame_end s place) (omega arith) (omega arith)
-        ∙ rw (tagged_bytes (place + 3) 0x32 name (omega arith) here.name-tagged (sym here.name-is), ← node-fills, node_written node levels (field_node s place) here.inside) in
+        ∙ rw (tagged_bytes (place + 3) 0x32 name (omega arith) here.name_tagged (sym here.name_is), ← node-fills, node_written node levels (field_node s place) here.inside) in
         part_split s place (frame_end s place) to (omega arith) frame_in
         ∙ rw (tagged_bytes place 0x31 (frame 0x32 name ++ schema_bytes node) (omega arith) here.tagged inside, fields_written more levels (frame_end s place) to here.behind)
 

@@ -144,7 +144,7 @@ module _ (schema : List ℕ) {metadata value : List ℕ} {names : Names} (lent :
     own : value ≡ value_bytes (names_used d) d
     unfolding holds
     own =
-        let short = lent.value-short in
+        let short = lent.value_short in
         let both = as_it_stands value alone (names_in metadata) lent.meant in
         let nothing : (id : ℕ) → holds id (ids_in most_levels value) ≡ true → get_or {A = ℕ} [] id 0 ≡ id_of (names_used d) (get_or (names_in metadata) id []) =
         λ id held. never (sym held ∙ ap (holds id) both.0) in
@@ -175,7 +175,7 @@ module _ (schema : List ℕ) {metadata value : List ℕ} {names : Names} (lent :
             metadata_is = sym (ap metadata_bytes (no_names_lem d array_no object_no) ∙ empty_metadata);
             metadata_short = omega arith;
             value_is = own;
-            value_short = lent.value-short;
+            value_short = lent.value_short;
           };
           no_array = array_no;
           no_object = object_no;

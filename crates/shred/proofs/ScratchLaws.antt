@@ -73,15 +73,15 @@ module _ (d : Doc) {first first' second second' : List ℕ} {a : DocumentAnswer}
 
   was_refused : written d ≡ refused TooLarge → a ≡ document.Refused TooLarge
   unfolding document_answer
-  was_refused is = rw is at answered.answer-is
+  was_refused is = rw is at answered.answer_is
 
   was_short : written d ≡ reached (normal_form d) → Rooms ≡ false → a ≡ document.Short (length (Metadata d)) (length (Value d))
   unfolding document_answer document_room normal_form
-  was_short is room = rw (is, room) at answered.answer-is
+  was_short is room = rw (is, room) at answered.answer_is
 
   was_done : written d ≡ reached (normal_form d) → Rooms ≡ true → a ≡ document.Done (length (Metadata d)) (length (Value d))
   unfolding document_answer document_room normal_form
-  was_done is room = rw (is, room) at answered.answer-is
+  was_done is room = rw (is, room) at answered.answer_is
 
   -- Done: the normal form stands in front of both buffers.
   record Stands (k l : ℕ) : Type 0 where
@@ -101,8 +101,8 @@ module _ (d : Doc) {first first' second second' : List ℕ} {a : DocumentAnswer}
           let k-is : k ≡ length (Metadata d) = cc in
           let l-is : l ≡ length (Value d) = cc in
           let rooms = and_both (leb (length (Metadata d)) (length first)) (leb (length (Value d)) (length second)) room in
-          let metadata = put_in_front first (Metadata d) (rw (is, room) at answered.metadata-is) k-is (leb-true (length (Metadata d)) (length first) rooms.0) in
-          let value = put_in_front second (Value d) (rw (is, room) at answered.value-is) l-is (leb-true (length (Value d)) (length second) rooms.1) in
+          let metadata = put_in_front first (Metadata d) (rw (is, room) at answered.metadata_is) k-is (leb-true (length (Metadata d)) (length first) rooms.0) in
+          let value = put_in_front second (Value d) (rw (is, room) at answered.value_is) l-is (leb-true (length (Value d)) (length second) rooms.1) in
           record { metadata_inside = metadata.0; metadata_stands = metadata.1; value_inside = value.0; value_stands = value.1; fits = short }
       by_room is short false room = let told = was_short is room in absurd (let z : ◌≡◌ {A = ℕ} 0 1 = cc in omega arith)
 
@@ -160,8 +160,8 @@ module _ {m : List ℕ} {names : Names} {v : List ℕ} (lent : Lent m names v) {
         record {
           names = names_in m;
           d = d;
-          metadata_fits = lent.metadata-short;
-          value_fits = lent.value-short;
+          metadata_fits = lent.metadata_short;
+          value_fits = lent.value_short;
           metadata_is = opened_names lent.opened;
           value_is = means;
           written_fits = fits;
@@ -177,13 +177,13 @@ module _ {m : List ℕ} {names : Names} {v : List ℕ} (lent : Lent m names v) {
         → Scratch (length m) (length v) (length first) (length second) ranks notes ids room → ⊥
     unfolding normal_form
     short_never e value_bytes_of scratch =
-        let few = names_few lent.opened lent.metadata-short in
+        let few = names_few lent.opened lent.metadata_short in
         let count = opened_count lent.opened in
-        let short = lent.value-short in
+        let short = lent.value_short in
         let most : length (Value meant.0) ≤ 2 * length v =
         normal_grows most_levels (names_in m) v meant.0 meant.1 value_bytes_of (omega arith) (omega arith) in
         never_short meant.0 (answers meant.0 meant.1) e λ fits.
-        (let shorter = metadata_shorter meant.0 meant.1 fits in let room = scratch.metadata-room in omega arith, let room = scratch.value_room in omega arith)
+        (let shorter = metadata_shorter meant.0 meant.1 fits in let room = scratch.metadata_room in omega arith, let room = scratch.value_room in omega arith)
 
     module _ {schema : List ℕ} (short : length schema ≤ most_schema) {k l : ℕ} (e : a ≡ document.Done k l) where
       done_normal : (node : Schema) (d : Doc) → schema_of schema ≡ some node → meaning_of most_levels (names_in m) v ≡ some d
@@ -192,17 +192,17 @@ module _ {m : List ℕ} {names : Names} {v : List ℕ} (lent : Lent m names v) {
       done_normal node d is means =
           let stands = done_stands d (answers d means) e in
           let shorter = metadata_shorter d means stands.fits in
-          let metadata_fits = lent.metadata-short in
+          let metadata_fits = lent.metadata_short in
           record {
             node = node;
             node_is = is;
             schema_short = short;
             d = d;
             good = (accepted_writable m v (normal_form d) (accepted d means stands.fits) bytes).good;
-            metadata_is = stands.metadata-stands;
-            metadata_short = rw stands.metadata-stands (omega arith);
-            value_is = stands.value-stands;
-            value_short = rw stands.value-stands stands.fits;
+            metadata_is = stands.metadata_stands;
+            metadata_short = rw stands.metadata_stands (omega arith);
+            value_is = stands.value_stands;
+            value_short = rw stands.value_stands stands.fits;
           }
 
       pub normal_asked : is_there (schema_of schema) ≡ true → Normalised schema (take k first') (take l second')

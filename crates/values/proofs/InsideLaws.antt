@@ -129,22 +129,22 @@ insides_start inner {s} {c} {i} {w} container {l} laid there =
 module _ {inner : List ℕ → Option Doc} {s : List ℕ} {c i w : ℕ} {area starts : List ℕ} {count place k : ℕ}
     (seen : InsidesSeen inner s c i w area starts count place k) (least : 1 ≤ w) where
   here : insides_good inner area (children_at area (numbers w count starts)) ≡ insides_good inner (area_of c i w s) (children_at (area_of c i w s) (starts_of c i w s))
-  here = rw (seen.same_area, seen.same-starts)
+  here = rw (seen.same_area, seen.same_starts)
 
   pub insides_done : count ≤ k → true ≡ insides_good inner (area_of c i w s) (children_at (area_of c i w s) (starts_of c i w s))
   unfolding insides_good all_good children_at
   insides_done past =
-      sym (sym here ∙ seen.whole_is ∙ ap (λ (l : List ℕ). insides_good inner area (children_at area l)) (run_ended seen.standing starts least seen.starts-in past))
+      sym (sym here ∙ seen.whole_is ∙ ap (λ (l : List ℕ). insides_good inner area (children_at area l)) (run_ended seen.standing starts least seen.starts_in past))
 
   pub next_there : k < count → w ≤ 4 → (place + w ≤ length starts) × (1 ≤ w) × (w ≤ 4)
-  next_there h most = (standing_there seen.standing starts least seen.starts-in h, least, most)
+  next_there h most = (standing_there seen.standing starts least seen.starts_in h, least, most)
 
   pub next_fits : k < count → Fits w64 (place + w)
-  next_fits h = let small = seen.starts-small in standing_fits seen.standing starts least seen.starts-in h (omega arith)
+  next_fits h = let small = seen.starts_small in standing_fits seen.standing starts least seen.starts_in h (omega arith)
 
   module _ (h : k < count) (start : ℕ) (is : start ≡ number_at starts place w) where
     next : drop k (numbers w count starts) ≡ start ∷ drop (k + 1) (numbers w count starts)
-    next = run_next seen.standing starts least seen.starts-in h start is
+    next = run_next seen.standing starts least seen.starts_in h start is
 
     left : is_there (children_at area (start ∷ drop (k + 1) (numbers w count starts))) ≡ true
     left = sym (ap (λ (l : List ℕ). is_there (children_at area l)) next) ∙ seen.left_there
@@ -166,11 +166,11 @@ module _ {inner : List ℕ → Option Doc} {s : List ℕ} {c i w : ℕ} {area st
       pub insides_next : not b ≡ false → InsidesSeen inner s c i w area starts count (place + w) (k + 1)
       insides_next f =
           record {
-            standing = standing_next seen.standing starts least seen.starts-in h;
-            starts_in = seen.starts-in;
-            starts_small = seen.starts-small;
+            standing = standing_next seen.standing starts least seen.starts_in h;
+            starts_in = seen.starts_in;
+            starts_small = seen.starts_small;
             same_area = seen.same_area;
-            same_starts = seen.same-starts;
+            same_starts = seen.same_starts;
             small = seen.small;
             left_there = (there_more inner area start (drop (k + 1) (numbers w count starts)) left).1;
             whole_is = all ∙ true_first b _ f;

@@ -74,10 +74,10 @@ module _ (levels : ℕ) (ranks : List ℕ) {s : List ℕ} {c i w : ℕ} (contain
 module _ {levels : ℕ} {s ranks : List ℕ} {c i w : ℕ} {area starts out₀ out : List ℕ} {count end start k : ℕ}
     (seen : ChildrenSeen levels s ranks c i w area starts out₀ out count end start k) (n : ℕ) (h : n < count) where
   pub start_there : 1 ≤ w → n * w + w ≤ length starts
-  start_there least = standing_there (record { within = omega arith; place_is = refl }) starts least seen.starts-in h
+  start_there least = standing_there (record { within = omega arith; place_is = refl }) starts least seen.starts_in h
 
   pub start_fits : 1 ≤ w → Fits w64 (n * w)
-  start_fits least = let there = start_there least in let few = seen.starts-small in record { fits = omega arith }
+  start_fits least = let there = start_there least in let few = seen.starts_small in record { fits = omega arith }
 
 module _ {levels : ℕ} {s ranks : List ℕ} {c i w : ℕ} {area starts out₀ out : List ℕ} {count end start k room : ℕ}
     (seen : ChildrenSeen levels s ranks c i w area starts out₀ out count end start k) (holding : Holding levels s ranks c i w room end)
@@ -92,10 +92,10 @@ module _ {levels : ℕ} {s ranks : List ℕ} {c i w : ℕ} {area starts out₀ o
     here : get_or (starts_of c i w s) (k - 1) 0 ≡ child
     here =
         let in_all = seen.within in
-        ap (λ (l : List ℕ). get_or l (k - 1) 0) (sym seen.same-starts) ∙ run_here standing starts least seen.starts-in (omega arith) child is
+        ap (λ (l : List ℕ). get_or l (k - 1) 0) (sym seen.same_starts) ∙ run_here standing starts least seen.starts_in (omega arith) child is
 
     starts_many : length (starts_of c i w s) ≡ count
-    starts_many = ap length (sym seen.same-starts) ∙ run_length w count starts least seen.starts-in
+    starts_many = ap length (sym seen.same_starts) ∙ run_length w count starts least seen.starts_in
 
     own : WritableChild levels holding.names ranks area child
     own =
@@ -178,10 +178,10 @@ module _ {levels : ℕ} {s ranks : List ℕ} {c i w : ℕ} {area starts out₀ o
             let whole = ends_join seen.ends (omega arith) ended in
             record {
               within = omega arith;
-              starts_in = seen.starts-in;
-              starts_small = seen.starts-small;
+              starts_in = seen.starts_in;
+              starts_small = seen.starts_small;
               same_area = seen.same_area;
-              same_starts = seen.same-starts;
+              same_starts = seen.same_starts;
               small = seen.small;
               same_size = ends_length ended (omega arith) ∙ seen.same_size;
               ends = rw (part_here, part_bytes) whole;

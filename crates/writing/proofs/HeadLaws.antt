@@ -47,9 +47,9 @@ module _ {out : List ℕ} {start end count : ℕ} (lying : Lying out start end c
     module _ {after : List ℕ} {at : ℕ} (offsets : Offsets out after count width start end at) where
       offsets_at : at + (count + 1) * width ≡ start
       offsets_at =
-          let ends = offsets lying.parts lying.lie lying.count-is in
+          let ends = offsets lying.parts lying.lie lying.count_is in
           let long : length (numbers_bytes width (offsets_from 0 lying.parts)) ≡ (count + 1) * width =
-          numbers_bytes-length width (offsets_from 0 lying.parts) ∙ rw (offsets_length 0 lying.parts, lying.count-is, add-one count) in
+          numbers_bytes-length width (offsets_from 0 lying.parts) ∙ rw (offsets_length 0 lying.parts, lying.count_is, add-one count) in
           let size = ends.size in
           omega arith
 

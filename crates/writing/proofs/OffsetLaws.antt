@@ -56,7 +56,7 @@ none_left (one ∷ more) e = absurd (omega arith)
 module _ {parts : List (List ℕ)} {out₀ out : List ℕ} {count width start end from place child i : ℕ}
     (seen : OffsetsSeen parts out₀ out count width start end from place child i) where
   pub behind : start ≤ child
-  behind = let is = seen.child-is in omega arith
+  behind = let is = seen.child_is in omega arith
 
   place_further : (n : ℕ) → (n + 1) * width ≡ n * width + width
   place_further n = rw (add-one n, suc-mul)
@@ -100,7 +100,7 @@ module _ {parts : List (List ℕ)} {out₀ out : List ℕ} {count width start en
 
       here : drop child after ≡ one ++ (joined more ++ seen.rest)
       here =
-          ap (λ (k : ℕ). drop k after) seen.child-is ∙ sym (drop-drop (length seen.front) start after)
+          ap (λ (k : ℕ). drop k after) seen.child_is ∙ sym (drop-drop (length seen.front) start after)
           ∙ ap (drop (length seen.front)) after_are ∙ drop_at seen.front (joined seen.left ++ seen.rest) (length seen.front) refl ∙ joined_is
 
       child_long : child_extent after child ≡ some (length one)
@@ -108,7 +108,7 @@ module _ {parts : List (List ℕ)} {out₀ out : List ℕ} {count width start en
       child_long =
           let size = seen.size in
           let sum = joined_size in
-          let is = seen.child-is in
+          let is = seen.child_is in
           let same = seen.same_size in
           let inside = seen.inside in
           let all = after_length in
@@ -132,8 +132,8 @@ module _ {parts : List (List ℕ)} {out₀ out : List ℕ} {count width start en
           let place-was = seen.place_is in
           let place-more = place_further (length seen.left) in
           let left_same : length seen.left * width ≡ (length more + 1) * width = rw (count_left, ← add-one (length more)) in
-          let child-was = seen.child-is in
-          let count-was = seen.count-is in
+          let child-was = seen.child_is in
+          let count-was = seen.count_is in
           let size-was = seen.size in
           let sum = joined_size in
           record {
@@ -156,7 +156,7 @@ module _ {parts : List (List ℕ)} {out₀ out : List ℕ} {count width start en
     -- By what was answered of its length.
     module _ (h : i < count) (r : Extent) (told : r ≡ extent_answer (child_extent after child)) where
       some_more : (one : List ℕ) × (more : List (List ℕ)) × (seen.left ≡ one ∷ more)
-      some_more = let is = seen.count-is in some_left seen.left (omega arith)
+      some_more = let is = seen.count_is in some_left seen.left (omega arith)
 
       answer : r ≡ Size (length some_more.0)
       unfolding extent_answer
@@ -173,13 +173,13 @@ module _ {parts : List (List ℕ)} {out₀ out : List ℕ} {count width start en
         long_fits small =
             let is = size_is in
             let was = seen.size in
-            let at = seen.child-is in
+            let at = seen.child_is in
             let sum = joined_size some_more.0 some_more.1 some_more.2 in
             let inside = seen.inside in
             record { fits = omega arith }
 
         pub seen_next : n ≡ child - start → OffsetsSeen parts out₀ after count width start end from (place + width) (child + size) (i + 1)
-        seen_next n-is = let at = seen.child-is in passed some_more.0 some_more.1 some_more.2 size size_is (omega arith) h
+        seen_next n-is = let at = seen.child_is in passed some_more.0 some_more.1 some_more.2 size size_is (omega arith) h
 
   -- The last offset.
   pub end_behind : start ≤ end
@@ -188,7 +188,7 @@ module _ {parts : List (List ℕ)} {out₀ out : List ℕ} {count width start en
   pub seen_done : count ≤ i → {after : List ℕ} → after ≡ put_at out place (number_bytes width (end - start)) → length parts ≡ count
       → EndsAt (numbers_bytes width (offsets_from 0 parts)) out₀ after start from
   seen_done past {after} put same =
-      let counted = seen.count-is in
+      let counted = seen.count_is in
       let empty : seen.left ≡ [] = none_left seen.left (omega arith) in
       let nothing : length (joined seen.left) ≡ 0 = rw empty (unfold joined in refl) in
       let size = seen.size in

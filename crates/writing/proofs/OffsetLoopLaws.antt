@@ -47,7 +47,7 @@ module _ {out₀ out : List ℕ} {count width start end from place child i : ℕ
   -- Parts lie there.
   module _ (lying : Lying out₀ start end count) where
     held : OffsetsSeen lying.parts out₀ out count width start end from place child i
-    held = loop.seen lying.parts lying.lie lying.count-is
+    held = loop.seen lying.parts lying.lie lying.count_is
 
     pub child_behind : start ≤ child
     child_behind = behind held

@@ -156,7 +156,7 @@ module _ {levels : ℕ} {s ranks : List ℕ} {room end : ℕ} (ready : Writable 
       object_start = (count_there s c i w object_laid).0
 
       pub object_most : i ≤ 4
-      object_most = object_laid.id-most
+      object_most = object_laid.id_most
 
       ids_are : ids_in levels s ≡ ids_of c i s ++ ids_inside (ids_in (levels - 1)) (area_of c i w s) (children_at (area_of c i w s) (starts_of c i w s))
       unfolding ids_by

@@ -21,7 +21,7 @@ payload_back : (code type : ℕ) (s : List ℕ) → PayloadParts type s → code
 unfolding body_kind cell_by given
 payload_back code type s parts is =
     let least = parts.least in
-    rw (is, ne_eqb type 1 (omega arith), ne_eqb type 16 parts.no-string) (go (eqb type 15) refl)
+    rw (is, ne_eqb type 1 (omega arith), ne_eqb type 16 parts.no_string) (go (eqb type 15) refl)
   where
     go : (b : Bool) → eqb type 15 ≡ b → cell_by (cond b binary sized) type s ≡ some (payload type s)
     go true e = refl

@@ -40,12 +40,12 @@ row_lawful_lem node d = cut_lawful (names_used d) node d (normal-names_there d)
 module _ (node : Schema) (d : Doc) (fits : RowFits node d) where
   row_writable : Writable most_levels d
   unfolding normal_form
-  row_writable = short_writable most_levels d fits.good fits.value-fits fits.metadata-fits
+  row_writable = short_writable most_levels d fits.good fits.value_fits fits.metadata_fits
 
   -- The outermost place, with all levels left, holds the document.
   whole_fits : Fits (names_used d) most_levels d
   unfolding normal_form
-  whole_fits = let short = fits.value-fits in record { good = fits.good; there = normal-names_there d; short = omega arith }
+  whole_fits = let short = fits.value_fits in record { good = fits.good; there = normal-names_there d; short = omega arith }
 
   row_length : length (row_bytes node d) ≡ 6 + length (metadata_bytes (names_used d)) + length (place_body (names_used d) (cut node d))
   unfolding row_bytes
@@ -66,19 +66,19 @@ module _ (node : Schema) (d : Doc) (fits : RowFits node d) where
       let body : List ℕ = place_body names (cut node d) in
       let size = row_length in
       let row_fits = fits.row_fits in
-      let few = row_writable.names-few in
+      let few = row_writable.names_few in
       rw (
         place_frame names (cut node d),
         pieces_frame 0x40 metadata (frame 0x50 body) (omega arith),
         frame_alone 0x50 body (omega arith),
-        le-leb (length metadata) most_metadata fits.metadata-fits,
+        le-leb (length metadata) most_metadata fits.metadata_fits,
         (normal_back most_levels d row_writable).0,
-        place_back names (omega arith) node most_levels d fits.node-good whole_fits (omega arith),
+        place_back names (omega arith) node most_levels d fits.node_good whole_fits (omega arith),
       )
 
   pub row_means : row_meaning node (cut_row node d) ≡ d
   unfolding row_meaning or_null
-  row_means = rw (cut_means node most_levels d fits.node-good fits.good)
+  row_means = rw (cut_means node most_levels d fits.node_good fits.good)
 
   module _ (schema : List ℕ) (schema_fits : length schema ≤ most_schema) (is : schema_of schema ≡ some node) where
     -- It passes every judgement, whatever comes of it, ..
@@ -92,7 +92,7 @@ module _ (node : Schema) (d : Doc) (fits : RowFits node d) where
     unfolding rebuild_outcome written writable require
     row_rebuilt =
         row_judged_lem (λ node parsed. written (row_meaning node parsed))
-        ∙ rw (row_means, le-leb (length (normal_form d).value) most_value fits.value-fits)
+        ∙ rw (row_means, le-leb (length (normal_form d).value) most_value fits.value_fits)
 
 -- Two documents have the same row exactly when they are equal.
 pub same_row : (node : Schema) (d e : Doc) → RowFits node d → RowFits node e → (row_bytes node d ≡ row_bytes node e) ↔ (d ≡ e)

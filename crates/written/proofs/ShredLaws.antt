@@ -81,11 +81,11 @@ module _ {schema metadata value row : List ℕ} (s : Shredded schema metadata va
     unfolding normal_form
     shredded_fits =
         let shorter = normal_shorter metadata value s.form s.document bytes in
-        let fit : length metadata ≤ most_metadata = s.document.metadata-fits in
+        let fit : length metadata ≤ most_metadata = s.document.metadata_fits in
         record {
-          node_good = schema_good schema s.node s.schema-is;
+          node_good = schema_good schema s.node s.schema_is;
           good = (accepted_writable metadata value s.form s.document bytes).good;
-          value_fits = s.document.written-fits;
+          value_fits = s.document.written_fits;
           metadata_fits = omega arith;
           row_fits = s.row_fits;
         }
@@ -96,7 +96,7 @@ module _ {schema metadata value row : List ℕ} (s : Shredded schema metadata va
 
     shredded_rebuilt : rebuild_outcome schema row ≡ normalise_outcome metadata value
     shredded_rebuilt =
-        ap (rebuild_outcome schema) (sym s.row_is) ∙ row_rebuilt s.node s.document.d shredded_fits schema s.schema-fits s.schema-is
+        ap (rebuild_outcome schema) (sym s.row_is) ∙ row_rebuilt s.node s.document.d shredded_fits schema s.schema_fits s.schema_is
         ∙ ap reached s.document.written_is ∙ sym (accepts metadata value s.form s.document)
 
 -- It is rebuilt to the document's normal form.
@@ -147,7 +147,7 @@ same_shredded schema metadata value metadata' value' row row' bytes bytes' e e' 
     let t : Shredded schema metadata' value' row' = shredded schema metadata' value' row' e' in
     let first : s.document.d ≡ d = same_reached (sym (shredded_means s) ∙ means) in
     let second : t.document.d ≡ d' = same_reached (sym (shredded_means t) ∙ means') in
-    let node : t.node ≡ s.node = some-injective t.node s.node (sym t.schema-is ∙ s.schema-is) in
+    let node : t.node ≡ s.node = some-injective t.node s.node (sym t.schema_is ∙ s.schema_is) in
     let fits : RowFits s.node d = rw first at (shredded_fits s bytes) in
     let fits' : RowFits s.node d' = rw (node, second) at (shredded_fits t bytes') in
     let row_is : row_bytes s.node d ≡ row = rw first at s.row_is in

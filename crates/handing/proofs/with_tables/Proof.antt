@@ -12,7 +12,7 @@ find-fields-requires : tie.Need-find-fields-requires
 find-fields-requires c κs =
     let pre = c.before.before.before.before.before.before.before.before.before.before.requires in
     let read = c.before.normal-names.ensures in
-    let short = pre.0.schema-short in
+    let short = pre.0.schema_short in
     (normal_good pre.0, omega arith, read.0, read.1, count_few pre.0 read.0)
 
 slice-relend-prefix-list-ids : tie.Need-slice-relend-prefix-list-ids
@@ -32,7 +32,7 @@ with-room-requires : tie.Need-with-room-requires
 with-room-requires c κs =
     let pre = c.before.before.before.before.before.before.before.before.before.before.before.before.before.before.before.before.before.before.before.before.before.before.requires in
     let opened = c.before.before.before.before.before.before.before.before.before.before.before.before.before.normal-names.ensures.0 in
-    let short = pre.0.schema-short in (
+    let short = pre.0.schema_short in (
       normal_tabled pre.0 opened _ c.before.before.before.before.before.before.before.before.before.before.before.find-fields.ensures (search rules) (omega (arith, count_within pre.0 opened, pre.1)) c.before.before.before.before.before.before.before.before.list-ids.ensures,
       search rules,
       search rules,
@@ -43,7 +43,7 @@ returns : tie.Need-returns
 returns c =
     let pre = c.before.before.before.before.before.before.before.before.before.before.before.before.before.before.before.before.before.before.before.before.before.before.before.before.before.before.before.before.before.before.before.requires in
     let opened = c.before.before.before.before.before.before.before.before.before.before.before.before.before.before.before.before.before.before.before.before.before.before.normal-names.ensures.0 in
-    let short = pre.0.schema-short in
+    let short = pre.0.schema_short in
     λ normal. tabled_answers normal opened _ c.before.before.before.before.before.before.before.before.before.before.before.before.before.before.before.before.before.before.before.before.find-fields.ensures (search rules) (omega (arith, count_within pre.0 opened, pre.1)) c.before.before.before.before.before.before.before.before.before.before.before.before.before.before.before.before.before.list-ids.ensures
     c.before.before.before.before.before.before.before.before.with-room.ensures
 

@@ -15,28 +15,28 @@ slice-write-out : tie.Need-slice-write-out
 slice-write-out c =
     let o = c in
     let s = o.before.before.before.before.before in
-    let f = fitting s.args.out.now s.requires o.before.total_of.ensures o.offset-size.ensures in
+    let f = fitting s.args.out.now s.requires o.before.total_of.ensures o.offset_size.ensures in
     header_room f
 
 write-requires : tie.Need-write-requires
 write-requires c κs =
     let o = c.before in
     let s = o.before.before.before.before.before in
-    let f = fitting s.args.out.now s.requires o.before.total_of.ensures o.offset-size.ensures in
-    (count_room f refl, o.offset-size.ensures.1, o.offset-size.ensures.2)
+    let f = fitting s.args.out.now s.requires o.before.total_of.ensures o.offset_size.ensures in
+    (count_room f refl, o.offset_size.ensures.1, o.offset_size.ensures.2)
 
 write-offsets-requires : tie.Need-write-offsets-requires
 write-offsets-requires c κs =
     let o = c.before.before.before.before.before in
     let s = o.before.before.before.before.before in
-    let f = fitting s.args.out.now s.requires o.before.total_of.ensures o.offset-size.ensures in
-    (s.requires.0, o.offset-size.ensures.1, o.offset-size.ensures.2, offsets_room f refl c.before.before.before.write.ensures)
+    let f = fitting s.args.out.now s.requires o.before.total_of.ensures o.offset_size.ensures in
+    (s.requires.0, o.offset_size.ensures.1, o.offset_size.ensures.2, offsets_room f refl c.before.before.before.write.ensures)
 
 write-names-requires : tie.Need-write-names-requires
 write-names-requires c κs =
     let o = c.before.before.before.before.before.before.before.before.before in
     let s = o.before.before.before.before.before in
-    let f = fitting s.args.out.now s.requires o.before.total_of.ensures o.offset-size.ensures in (
+    let f = fitting s.args.out.now s.requires o.before.total_of.ensures o.offset_size.ensures in (
       s.requires.0,
       names_room f refl
           c.before.before.before.before.before.before.before.write.ensures
@@ -47,7 +47,7 @@ same_length : tie.Need-same-length
 same_length c =
     let o = c.before.before.before.before.before.before.before.before.before.before.before.before in
     let s = o.before.before.before.before.before in
-    let f = fitting s.args.out.now s.requires o.before.total_of.ensures o.offset-size.ensures in
+    let f = fitting s.args.out.now s.requires o.before.total_of.ensures o.offset_size.ensures in
     written_length f refl
     c.before.before.before.before.before.before.before.before.before.before.write.ensures
     c.before.before.before.before.before.before.write-offsets.ensures c.before.before.write-names.ensures
@@ -56,7 +56,7 @@ returns : tie.Need-returns
 returns c =
     let o = c.before.before.before.before.before.before.before.before.before.before.before.before in
     let s = o.before.before.before.before.before in
-    let f = fitting s.args.out.now s.requires o.before.total_of.ensures o.offset-size.ensures in
+    let f = fitting s.args.out.now s.requires o.before.total_of.ensures o.offset_size.ensures in
     written f refl
     c.before.before.before.before.before.before.before.before.before.before.write.ensures
     c.before.before.before.before.before.before.write-offsets.ensures c.before.before.write-names.ensures

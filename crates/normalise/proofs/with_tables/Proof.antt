@@ -24,7 +24,7 @@ with-room-requires : tie.Need-with-room-requires
 unfolding readings
 with-room-requires c κs =
     let pre = c.before.before.before.before.before.before.before.before.before.before.before.before.before.before.before.before.before.before.before.before.before.before.before.before.before.requires in
-    (readings_all, numbered pre.0 (λ i. omega (arith, c.before.before.before.before.before.before.before.before.before.before.before.before.before.before.before.before.before.before.before.before.before.before.before.shared-slice-known2.given i)) c.before.before.before.before.before.before.before.before.before.before.before.before.before.before.before.mark.ensures pre.4 pre.1 c.before.before.before.before.before.before.before.before.before.rank.ensures (search rules) (search rules), pre.0.value-short)
+    (readings_all, numbered pre.0 (λ i. omega (arith, c.before.before.before.before.before.before.before.before.before.before.before.before.before.before.before.before.before.before.before.before.before.before.before.shared-slice-known2.given i)) c.before.before.before.before.before.before.before.before.before.before.before.before.before.before.before.mark.ensures pre.4 pre.1 c.before.before.before.before.before.before.before.before.before.rank.ensures (search rules) (search rules), pre.0.value_short)
 
 same_length : tie.Need-same-length
 same_length c = search rules

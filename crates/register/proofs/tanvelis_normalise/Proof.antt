@@ -23,7 +23,7 @@ same-length-2 c = search rules
 returns : tie.Need-returns
 returns c =
     let answered = c.before.before.before.before.before.normalise.ensures in
-    (c.document-word.ensures ∙ ap document_word answered.answer-is, answered.metadata-is, answered.value-is)
+    (c.document-word.ensures ∙ ap document_word answered.answer_is, answered.metadata_is, answered.value_is)
 
 pub tanvelis-normalise-spec : {M : Type 1} → statement M
 tanvelis-normalise-spec =

@@ -8,7 +8,7 @@ use Rattle.register.proofs.tanvelis_rebuild.Tie as tie
 returns : tie.Need-returns
 returns c =
     let answered = c.before.before.before.before.before.rebuild-row.ensures.0 in
-    (c.document-word.ensures ∙ ap document_word answered.answer-is, answered.metadata-is, answered.value-is)
+    (c.document-word.ensures ∙ ap document_word answered.answer_is, answered.metadata_is, answered.value_is)
 
 pub tanvelis-rebuild-spec : {M : Type 1} → statement M
 tanvelis-rebuild-spec =

@@ -9,7 +9,7 @@ use Rattle.register.proofs.tanvelis_shred.Tie as tie
 returns : tie.Need-returns
 returns c =
     let answered = c.before.before.before.shred.ensures in
-    (c.row_word.ensures ∙ ap row_word answered.answer-is, answered.row_is)
+    (c.row_word.ensures ∙ ap row_word answered.answer_is, answered.row_is)
 
 pub tanvelis-shred-spec : {M : Type 1} → statement M
 tanvelis-shred-spec =

@@ -12,8 +12,8 @@ object-requires c κs =
     let some = copied.before.before.before in
     let noted = some.before.before.before.before.before in
     let pre = noted.before.before.before.before.before.before.before.before.before.before.before.requires in
-    let asks = rest_members pre.3 noted.note-left.ensures some.if1.false pre.1 copied.copy-noted.ensures known.before.parts.given.1 in
-    ((pre.0, asks.0, asks.1, asks.2, asks.3), rest_ids pre.3 noted.note-left.ensures)
+    let asks = rest_members pre.3 noted.note_left_lem.ensures some.if1.false pre.1 copied.copy-noted.ensures known.before.parts.given.1 in
+    ((pre.0, asks.0, asks.1, asks.2, asks.3), rest_ids pre.3 noted.note_left_lem.ensures)
 
 returns-3 : tie.Need-returns-3
 returns-3 c ready =
@@ -23,7 +23,7 @@ returns-3 c ready =
     let some = copied.before.before.before in
     let noted = some.before.before.before.before.before in
     let pre = noted.before.before.before.before.before.before.before.before.before.before.before.requires in
-    rest_full_head ready noted.note-left.ensures some.if1.false pre.1 copied.copy-noted.ensures known.before.parts.given.1 headed.object.ensures
+    rest_full_head ready noted.note_left_lem.ensures some.if1.false pre.1 copied.copy-noted.ensures known.before.parts.given.1 headed.object.ensures
     c.enum-told2.given.1
 
 head-requires : tie.Need-head-requires
@@ -35,7 +35,7 @@ head-requires c κs =
     let some = copied.before.before.before in
     let noted = some.before.before.before.before.before in
     let pre = noted.before.before.before.before.before.before.before.before.before.before.before.requires in
-    rest_asks pre.3 noted.note-left.ensures some.if1.false pre.1 copied.copy-noted.ensures known.before.parts.given.1 headed.object.ensures
+    rest_asks pre.3 noted.note_left_lem.ensures some.if1.false pre.1 copied.copy-noted.ensures known.before.parts.given.1 headed.object.ensures
     found.start.given.1 pre.2
 
 returns-4 : tie.Need-returns-4
@@ -48,7 +48,7 @@ returns-4 c ready =
     let some = copied.before.before.before in
     let noted = some.before.before.before.before.before in
     let pre = noted.before.before.before.before.before.before.before.before.before.before.before.requires in
-    rest_put ready noted.note-left.ensures some.if1.false pre.1 copied.copy-noted.ensures known.before.parts.given.1 headed.object.ensures
+    rest_put ready noted.note_left_lem.ensures some.if1.false pre.1 copied.copy-noted.ensures known.before.parts.given.1 headed.object.ensures
     found.start.given.1 framed.head.ensures
 
 pub rest-spec : {M : Type 1} → statement M

@@ -7,8 +7,8 @@ use Rattle.shred.proofs.with_large_scratch.Tie as tie
 with-scratch-requires : tie.Need-with-scratch-requires
 with-scratch-requires c κs =
     let pre = c.before.before.before.before.before.before.before.before.before.before.before.requires in
-    let metadata_short = pre.0.metadata-short in
-    let value_short = pre.0.value-short in
+    let metadata_short = pre.0.metadata_short in
+    let value_short = pre.0.value_short in
     (pre.0, pre.1, pre.2, record { metadata_room = omega arith; value_room = omega arith; ranks_room = omega arith; notes_room = omega arith; ids_room = omega arith; room_short = omega arith })
 
 pub with-large-scratch-spec : {M : Type 1} → statement M

@@ -25,10 +25,10 @@ with-tables-requires c κs =
     let start = c.before.before.before.before.before.before.before.before.before.before.before.before.before.before.before.before.before.before.before.before.before.before.before.before.before.before.before in
     let scratch = start.requires.3 in (
       normal_asked start.requires.0 c.before.before.before.before.before.before.before.before.before.before.before.before.before.before.normalise.ensures (λ i. omega (arith, c.before.before.before.before.before.before.before.before.before.before.before.before.before.before.before.before.before.before.before.before.before.before.before.before.before.shared-slice-known2.given i)) start.requires.2 c.before.before.before.before.before.before.before.before.answer.given.1 start.requires.1,
-      rw length-take (omega (arith, scratch.ranks-room, c.before.before.before.before.before.before.before.before.before.before.before.before.before.before.normalise.auto)),
-      rw length-take (omega (arith, scratch.notes-room, c.before.before.before.before.before.before.before.before.before.before.before.before.before.before.normalise.auto)),
-      rw length-take (omega (arith, scratch.ids-room, c.before.before.before.before.before.before.before.before.before.before.before.before.before.before.normalise.auto)),
-      scratch.room-short,
+      rw length-take (omega (arith, scratch.ranks_room, c.before.before.before.before.before.before.before.before.before.before.before.before.before.before.normalise.auto)),
+      rw length-take (omega (arith, scratch.notes_room, c.before.before.before.before.before.before.before.before.before.before.before.before.before.before.normalise.auto)),
+      rw length-take (omega (arith, scratch.ids_room, c.before.before.before.before.before.before.before.before.before.before.before.before.before.before.normalise.auto)),
+      scratch.room_short,
     )
 
 returns : tie.Need-returns

@@ -138,7 +138,7 @@ list-places-closed t = list-places-lts.spec (list-places-claims t) (GivenAt μ-l
     -- one element more stands in front
     (λ c. list_next c.before.before.before.before.before.before.before.before.before.before.before.before.before.before.before.before.before.before.before.before.before.before.before.before.before.before.before.before.before.before.before.before.before.before.requires.1.2 c.before.before.before.before.before.before.before.before.before.before.before.before.before.before.before.before.before.before.before.before.before.loop.invariant c.before.before.before.before.before.before.before.before.before.before.before.before.before.before.before.before.before.before.before.before.loop-test.true _ c.before.before.before.before.before.before.before.before.before.before.before.before.before.before.before.before.before.before.spot.ensures c.before.before.before.before.before.before.before.before.before.before.before.before.before.before.before.before.before.place-frame.ensures c.before.before.before.before.before.before.before.before.before.before.before.before.before.before.before.to.given.1 c.before.before.before.before.before.before.before.before.before.place.ensures c.before.one.given.1 refl c.before.before.before.before.before.before.before.before.before.place.auto.1.1.1.1.1.1.1.1.0 c.before.before.before.before.before.before.before.before.before.place.new.1.1.1.1.1.1.1.0 c.before.before.before.before.before.before.before.before.before.place.auto.1.1.1.1.1.1.1.0)
     -- what the head asks
-    (λ c κs. let pre = c.before.before.before.before.before.before.before.before.before.before.before.before.before.before.before.requires in let seen = c.before.before.loop.invariant in let over = c.before.loop-test.false in let same = seen.out-size in let fits = pre.1.1.within in
+    (λ c κs. let pre = c.before.before.before.before.before.before.before.before.before.before.before.before.before.before.before.requires in let seen = c.before.before.loop.invariant in let over = c.before.loop-test.false in let same = seen.out_size in let fits = pre.1.1.within in
     (pre.1.0, seen.room, list_lying pre.1.2 seen (omega arith), list_few pre.1.2 seen, omega arith))
     (λ c. search rules)
     (λ c. search rules)
@@ -222,7 +222,7 @@ noted-places-closed t = noted-places-lts.spec (noted-places-claims t) (GivenAt �
     -- one member more stands in front
     (λ c. noted_next c.before.before.before.before.before.before.before.before.before.before.before.before.before.before.before.before.before.before.before.before.before.before.before.before.before.before.before.before.requires.1.2 c.before.before.before.before.before.before.before.before.before.before.before.before.before.before.before.before.before.before.loop.invariant c.before.before.before.before.before.before.before.before.before.before.before.before.before.before.before.before.before.loop-test.true _ _ c.before.before.before.before.before.before.before.before.before.before.before.before.before.before.before.spot.ensures c.before.before.before.before.before.before.before.before.before.before.before.before.before.spot2.ensures _ _ (simp (length-take, length-drop) (omega arith)) (simp (length-take, length-drop) (omega arith)) c.before.before.before.before.before.before.before.before.before.member.ensures c.before.one.given.1 _ refl c.before.before.before.before.before.before.before.before.before.member.new.1.1.1.1.1.1.1.1.1.0 c.before.before.before.before.before.before.before.before.before.member.auto.1.1.1.1.1.1.1.1.1.0 c.before.before.before.before.before.before.before.before.before.member.new.1.1.1.1.1.1.1.1.1.1.0 c.before.before.before.before.before.before.before.before.before.member.auto.1.1.1.1.1.1.1.1.1.1.0)
     -- what the head asks
-    (λ c κs. let pre = c.before.before.before.before.before.before.before.before.before.before.before.before.before.requires in let seen = c.before.before.before.loop.invariant in let over = c.before.before.loop-test.false in let same = seen.out-size in let fits = pre.1.1.within in
+    (λ c κs. let pre = c.before.before.before.before.before.before.before.before.before.before.before.before.before.requires in let seen = c.before.before.before.loop.invariant in let over = c.before.before.loop-test.false in let same = seen.out_size in let fits = pre.1.1.within in
     ((pre.1.0, seen.room, noted_lying pre.1.2 seen (omega arith), noted_few pre.1.2 seen, omega arith), (noted-ids_in pre.1.2 seen, noted_ranked pre.1.2 seen)))
     (λ c. search rules)
     (λ c. search rules)

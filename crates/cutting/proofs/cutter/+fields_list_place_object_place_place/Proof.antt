@@ -126,7 +126,7 @@ list-place-closed t = list-place-lts.spec (list-place-claims t) (GivenAt μ-list
     (λ c. search rules)
     (λ c κs. let pre = c.before.before.before.before.before.before.before.before.before.before.before.before.before.before.before.before.requires in let seen = c.before.loop.invariant in let most = seen.within in let left = c.loop-test.true in list_there pre.1.3 c.before.before.before.before.before.before.reading-by.ensures c.before.before.before.before.says.given.1 c.before.before.members-of.ensures (omega arith))
     -- the call of `place` on an element, at the same levels
-    (λ c κs. let pre = c.before.before.before.before.before.before.before.before.before.before.before.before.before.before.before.before.before.before.before.before.requires in let seen = c.before.before.before.before.before.loop.invariant in let most = seen.within in let left = c.before.before.before.before.loop-test.true in (omega (arith, pre.0), (pre.1.0, seen.room, omega (arith, seen.out-size, pre.1.2), element_ready pre.1.3 c.before.before.before.before.before.before.before.before.before.before.reading-by.ensures c.before.before.before.before.before.before.before.before.says.given.1 c.before.before.before.before.before.before.members-of.ensures (omega arith) c.before.before.before.part_at.ensures seen.notes-size seen.ids-size)))
+    (λ c κs. let pre = c.before.before.before.before.before.before.before.before.before.before.before.before.before.before.before.before.before.before.before.before.requires in let seen = c.before.before.before.before.before.loop.invariant in let most = seen.within in let left = c.before.before.before.before.loop-test.true in (omega (arith, pre.0), (pre.1.0, seen.room, omega (arith, seen.out_size, pre.1.2), element_ready pre.1.3 c.before.before.before.before.before.before.before.before.before.before.reading-by.ensures c.before.before.before.before.before.before.before.before.says.given.1 c.before.before.before.before.before.before.members-of.ensures (omega arith) c.before.before.before.part_at.ensures seen.notes_size seen.ids_size)))
     (λ c. search rules)
     (λ c. search rules)
     (λ c. search rules)
@@ -137,7 +137,7 @@ list-place-closed t = list-place-lts.spec (list-place-claims t) (GivenAt μ-list
     (λ c. search rules)
     -- one element more stands in front
     (λ c. let pre = c.before.before.before.before.before.before.before.before.before.before.before.before.before.before.before.before.before.before.before.before.before.before.before.before.before.before.before.before.before.before.requires in let seen = c.before.before.before.before.before.before.before.before.before.before.before.before.before.before.before.loop.invariant in let most = seen.within in let left = c.before.before.before.before.before.before.before.before.before.before.before.before.before.before.loop-test.true in list_next c.before.before.before.before.before.before.before.before.before.before.before.before.before.before.before.before.before.before.before.before.reading-by.ensures c.before.before.before.before.before.before.before.before.before.before.before.before.before.before.before.before.before.before.says.given.1 c.before.before.before.before.before.before.before.before.before.before.before.before.before.before.before.before.members-of.ensures seen pre.1.1.within _ (omega arith) c.before.before.before.before.before.before.before.before.before.before.before.before.before.part_at.ensures c.before.before.before.before.before.before.before.before.before.place2.ensures pre.1.3 c.before.one.given.1 (c.before.before.before.before.before.before.before.before.before.place2.auto.1.1.1.1.1.1.1.0) (c.before.before.before.before.before.before.before.before.before.place2.auto.1.1.1.1.1.1.1.1.0))
-    (λ c κs. let pre = c.before.before.before.before.before.before.before.before.before.before.before.before.before.before.before.before.before.requires in let seen = c.before.before.loop.invariant in (seen.room, seen.below, omega (arith, seen.out-size, pre.1.1.within), omega (arith, seen.out-size, pre.1.2), omega arith))
+    (λ c κs. let pre = c.before.before.before.before.before.before.before.before.before.before.before.before.before.before.before.before.before.requires in let seen = c.before.before.loop.invariant in (seen.room, seen.below, omega (arith, seen.out_size, pre.1.1.within), omega (arith, seen.out_size, pre.1.2), omega arith))
     (λ c. search rules)
     (λ c. search rules)
     (λ c. search rules)
@@ -161,7 +161,7 @@ object-place-closed t = object-place-lts.spec (object-place-claims t) (GivenAt �
     (λ c. λ ready. put-no_object ready c.before.before.before.before.before.reading-by.ensures (λ counted id width e. other_tag (rw e at c.before.before.before.before.match.keys2)) c.before.before.place.ensures)
     (λ c κs. object_container c.before.before.before.before.before.before.before.before.before.before.before.before.before.requires.1.3 c.before.before.before.reading-by.ensures c.before.says.given.1)
     -- the call of `fields`, at the same levels
-    (λ c κs. let pre = c.before.before.before.before.before.before.before.before.before.before.before.before.before.before.before.before.before.requires in let within = pre.1.3.stand.within in let short = pre.1.3.ground.schema-short in (omega (arith, pre.0), (pre.1.0, pre.1.1, pre.1.2, fields_ready pre.1.3 c.before.before.before.before.before.before.before.reading-by.ensures c.before.before.before.before.before.says.given.1 c.before.before.before.members-of.ensures)))
+    (λ c κs. let pre = c.before.before.before.before.before.before.before.before.before.before.before.before.before.before.before.before.before.requires in let within = pre.1.3.stand.within in let short = pre.1.3.ground.schema_short in (omega (arith, pre.0), (pre.1.0, pre.1.1, pre.1.2, fields_ready pre.1.3 c.before.before.before.before.before.before.before.reading-by.ensures c.before.before.before.before.before.says.given.1 c.before.before.before.members-of.ensures)))
     (λ c. search rules)
     (λ c. search rules)
     (λ c. search rules)

@@ -88,7 +88,7 @@ pub +held-list-places-object-places-place-typed-spec : {M : Type 1} → statemen
     (λ c κs. search (rules, list_asks))
     (λ c. let known = c.before.before.before.before.before.before in let frame = known.before.before in
     let has = frame.before.loop-test.true in
-    let inner = list_inner frame.before.before.loop.invariant has frame.place-frame.ensures known.end.given.1 in search rules)
+    let inner = list_inner frame.before.before.loop.invariant has frame.place_frame.ensures known.end.given.1 in search rules)
     (λ c. search (rules, list_next))
     (λ c. search rules) (λ c. search (rules, list_done)))
     -- ---- `object_places`
@@ -106,13 +106,13 @@ pub +held-list-places-object-places-place-typed-spec : {M : Type 1} → statemen
     (λ c κs. let known = c.before.before.before.before.before.before.before.before in let frame = known.before.before in
     let left = frame.before.loop-test.true in
     let pre = c.before.before.before.before.before.before.before.before.before.before.before.before.before.before.before.before.before.before.requires in
-    let asks = field_inside frame.before.before.loop.invariant left frame.place-frame.ensures known.end.given.1 _ c.before.before.before.before.before.field-node.ensures _ _ c.before.before.before.mark-field.ensures in
+    let asks = field_inside frame.before.before.loop.invariant left frame.place_frame.ensures known.end.given.1 _ c.before.before.before.before.before.field-node.ensures _ _ c.before.before.before.mark-field.ensures in
     (omega (arith, pre.0), (pre.1.0, asks)))
     (λ c κs. search (rules, field_frame_in)) (λ c. search rules)
     -- one field more
     (λ c. let known = c.before.before.before.before.before.before.before.before.before.before.before.before in let frame = known.before.before in
     let left = frame.before.loop-test.true in
-    fields_next frame.before.before.loop.invariant left frame.place-frame.ensures known.end.given.1 _ c.before.before.before.before.before.before.before.before.before.field-node.ensures _ c.before.before.before.before.before.before.before.mark-field.ensures _ c.before.before.before.held.ensures _ c.frame-end.ensures)
+    fields_next frame.before.before.loop.invariant left frame.place_frame.ensures known.end.given.1 _ c.before.before.before.before.before.before.before.before.before.field-node.ensures _ c.before.before.before.before.before.before.before.mark-field.ensures _ c.before.before.before.held.ensures _ c.frame-end.ensures)
     (λ c. search rules) (λ c. search (rules, fields_done)))
     -- ---- `place`
     (λ t. place-lts.spec

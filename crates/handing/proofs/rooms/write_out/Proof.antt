@@ -26,7 +26,7 @@ part-hand-out-start c =
     search rules
 
 hand-out-requires : tie.Need-hand-out-requires
-hand-out-requires c κs = let pre = c.before.before.before.before.before.before.before.before.before.before.before.before.before.before.before.before.before.before.before.before.before.before.before.before.before.before.requires in (pre.0.normal.metadata-short, rw (length-take, length-drop) (omega (arith, pre.3)))
+hand-out-requires c κs = let pre = c.before.before.before.before.before.before.before.before.before.before.before.before.before.before.before.before.before.before.before.before.before.before.before.before.before.before.requires in (pre.0.normal.metadata_short, rw (length-take, length-drop) (omega (arith, pre.3)))
 
 returns-2 : tie.Need-returns-2
 returns-2 c =

@@ -16,7 +16,7 @@ decreases-loop body places₀ n₀ at₀ places n at = length body - at
 returns : tie.Need-returns invariant-loop decreases-loop
 returns c =
     let asked = c.before.before in
-    absurd (elements_whole asked.before.before.loop.invariant asked.before.loop-test.true asked.place-frame.ensures c.enum_told.given.1)
+    absurd (elements_whole asked.before.before.loop.invariant asked.before.loop-test.true asked.place_frame.ensures c.enum_told.given.1)
 
 pub note-elements-spec : {M : Type 1} → statement M
 note-elements-spec =

@@ -20,13 +20,13 @@ note-requires : tie.Need-note-requires
 note-requires c κs =
     let lower = c.before.before.before.before.before.before in
     let pre = lower.before.before.before.before.before.before.before.before.before.requires in
-    (field_room lower.note-left.ensures pre.3, pre.5, pre.6, pre.7)
+    (field_room lower.note_left_lem.ensures pre.3, pre.5, pre.6, pre.7)
 
 returns : tie.Need-returns
 returns c =
     let noted = c.before.before.before.before in
     let lower = noted.before.before.before.before.before.before.before in
-    field_added lower.note-left.ensures _ lower.before.before.before.normal-of.ensures noted.note.ensures
+    field_added lower.note_left_lem.ensures _ lower.before.before.before.normal-of.ensures noted.note.ensures
 
 pub note-field-spec : {M : Type 1} → statement M
 note-field-spec =

@@ -19,7 +19,7 @@ decreases-loop ranks schema table from to lefts id starts width count body place
 returns : tie.Need-returns invariant-loop decreases-loop
 returns c =
     let asked = c.before.before in
-    absurd (place_whole asked.before.before.loop.invariant asked.before.loop-test.true asked.place-frame.ensures c.enum_told.given.1)
+    absurd (place_whole asked.before.before.loop.invariant asked.before.loop-test.true asked.place_frame.ensures c.enum_told.given.1)
 
 -- .. and a field that is present has an id.
 returns-2 : tie.Need-returns-2 invariant-loop decreases-loop
@@ -28,7 +28,7 @@ returns-2 c =
     let ended = looked.before.before.before.before in
     let asked = ended.before.before in
     absurd
-    (field_known asked.before.before.loop.invariant asked.before.loop-test.true asked.place-frame.ensures ended.end.given.1 looked.before.if1.true
+    (field_known asked.before.before.loop.invariant asked.before.loop-test.true asked.place_frame.ensures ended.end.given.1 looked.before.if1.true
     looked.field-id.ensures c.enum-told2.given.1)
 
 note-field-requires : tie.Need-note-field-requires invariant-loop decreases-loop
@@ -42,11 +42,11 @@ note-field-requires c κs =
     let left = turn.loop-test.true in
     let pre = turn.before.before.before.before.before.before.before.before.before.before.requires in
     let present = looked.before.if1.true in
-    let id = found_there seen left asked.place-frame.ensures ended.end.given.1 present looked.field-id.ensures known.found.given.1 in (
+    let id = found_there seen left asked.place_frame.ensures ended.end.given.1 present looked.field-id.ensures known.found.given.1 in (
       pre.0.1,
       run_ranked pre.0.0,
       seen.left_in,
-      member_room seen left asked.place-frame.ensures ended.end.given.1 present pre.1.2 pre.1.3,
+      member_room seen left asked.place_frame.ensures ended.end.given.1 present pre.1.2 pre.1.3,
       id.0,
       id.1,
       omega (arith, place_there seen left, pre.1.1),
@@ -76,7 +76,7 @@ loop-again c =
     let ended = framed.before.before in
     let asked = ended.before.before in
     let turn = asked.before in
-    members_present turn.before.loop.invariant turn.loop-test.true asked.place-frame.ensures ended.end.given.1 framed.frame-end.ensures looked.before.if1.true
+    members_present turn.before.loop.invariant turn.loop-test.true asked.place_frame.ensures ended.end.given.1 framed.frame-end.ensures looked.before.if1.true
     looked.field-id.ensures known.found.given.1 noted.note-field.ensures
 
 -- Behind the last field, all that is left of the leftover's members.
@@ -92,14 +92,14 @@ add-result c =
     let noted = c.before.before.before.before in
     let loop = noted.before.before.before.before in
     let start = loop.before.before.before.before.before.before.before.before.before in
-    (count_fits loop.loop.invariant noted.note-left.ensures.forward noted.note-left.ensures.within start.requires.1.2 start.well-formed.1.1.1.1.1.1.1.1.1.1.1.0.0).0
+    (count_fits loop.loop.invariant noted.note_left_lem.ensures.forward noted.note_left_lem.ensures.within start.requires.1.2 start.well-formed.1.1.1.1.1.1.1.1.1.1.1.0.0).0
 
 returns-3 : tie.Need-returns-3 invariant-loop decreases-loop
 returns-3 c =
     let noted = c.before.before.before.before in
     let left = noted.before.before.before in
     let entry = left.before.before.before.before.before.before.before.before.before in
-    members_done left.before.loop.invariant left.loop-test.false (λ i. omega (arith, entry.shared-slice-known.given i)) noted.note-left.ensures
+    members_done left.before.loop.invariant left.loop-test.false (λ i. omega (arith, entry.shared-slice-known.given i)) noted.note_left_lem.ensures
 
 pub note-fields-spec : {M : Type 1} → statement M
 note-fields-spec =

@@ -28,9 +28,9 @@ note-requires c κs =
     let turn = named.before in
     let loop = turn.before in
     let pre = loop.before.before.before.before.before.before.requires in
-    let start : _ = number_low _ pre.0.width-least pre.0.starts-in turn.loop-test.true pre.0.starts-low _ read.read.ensures.0 in (
+    let start : _ = number_low _ pre.0.width_least pre.0.starts_in turn.loop-test.true pre.0.starts_low _ read.read.ensures.0 in (
       left_room loop.loop.invariant pre.0 turn.loop-test.true pre.3,
-      number_low _ pre.0.id-least pre.0.ids-in turn.loop-test.true pre.1.low _ named.input-id-at.ensures.0,
+      number_low _ pre.0.id_least pre.0.ids_in turn.loop-test.true pre.1.low _ named.input-id-at.ensures.0,
       omega (arith, start),
       omega arith,
     )

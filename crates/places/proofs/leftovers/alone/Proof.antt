@@ -10,4 +10,4 @@ alone-spec =
     (tie.spec
     (λ c κs. search rules) (λ c. alone_unread _ _ _ _ _ _ c.before.lawful-left.ensures c.if1.true) (λ c κs. search (rules, left_ready_lem, left_some)) (λ c κs. search rules)
     (λ c. let asked = c.before.before in
-    alone_judged _ _ _ _ _ _ asked.before.lawful-left.ensures asked.if1.false _ c.before.left-broken.ensures _ c.broken-if.ensures))
+    alone_judged _ _ _ _ _ _ asked.before.lawful_left.ensures asked.if1.false _ c.before.left-broken.ensures _ c.broken-if.ensures))

@@ -52,7 +52,7 @@ name-before-requires c κs =
     let pre = top.before.before.before.before.before.before.before.before.before.before.before.requires in
     let seen = top.loop.invariant in
     let lower = fold_below seen (opened_below pre.0 _ pre.1) c.before.before.loop-test.true _ c.id-at2.ensures.0 in
-    (pre.0, opened_lower pre.0 _ seen.last-below, opened_lower pre.0 _ lower)
+    (pre.0, opened_lower pre.0 _ seen.last_below, opened_lower pre.0 _ lower)
 
 put-id-requires : tie.Need-put-id-requires invariant-loop decreases-loop
 put-id-requires c κs = search rules

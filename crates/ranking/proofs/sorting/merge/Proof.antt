@@ -53,7 +53,7 @@ id-at-requires-2 c κs =
     let left = c.before in
     let seen = left.before.before.before.loop.invariant in
     let size = seen.size in
-    takes_other _ _ _ _ _ _ left.before.from_First.ensures left.if1.false seen.far-first (search rules)
+    takes_other _ _ _ _ _ _ left.before.from_First.ensures left.if1.false seen.far_first (search rules)
 
 put-id-requires-2 : tie.Need-put-id-requires-2 invariant-loop decreases-loop
 put-id-requires-2 c κs = search rules

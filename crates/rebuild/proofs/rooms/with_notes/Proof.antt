@@ -7,7 +7,7 @@ use Rattle.rebuild.proofs.rooms.with_notes.Tie as tie
 in-long-room-requires-2 : tie.Need-in-long-room-requires-2
 in-long-room-requires-2 c κs =
     let pre = c.before.before.before.before.before.before.before.before.before.before.before.before.before.requires in
-    let short = pre.1.judged.row-short in
+    let short = pre.1.judged.row_short in
     (pre.0, pre.1, omega (arith, short), omega (arith, short))
 
 pub with-notes-spec : {M : Type 1} → statement M

@@ -93,27 +93,27 @@ pub +held-list-places-object-places-place-typed-spec : {M : Type 1} → statemen
     (λ c κs. search rules) (λ c. search rules) (λ c. search rules)
     -- a frame that is no place
     (λ c. let frame = c.before.before in let turn = frame.before in let has = frame.before.loop-test.true in
-    list_cut turn.before.loop.invariant has frame.place-frame.ensures c.enum_told.given.1)
+    list_cut turn.before.loop.invariant has frame.place_frame.ensures c.enum_told.given.1)
     (λ c. let frame = c.before.before.before in let turn = frame.before in let has = frame.before.loop-test.true in
-    let fits = list_fits turn.before.loop.invariant has frame.place-frame.ensures c.before.end.given.1 in search rules)
+    let fits = list_fits turn.before.loop.invariant has frame.place_frame.ensures c.before.end.given.1 in search rules)
     (λ c. let frame = c.before.before.before in let turn = frame.before in let has = frame.before.loop-test.true in
-    let fits = list_fits turn.before.loop.invariant has frame.place-frame.ensures c.before.end.given.1 in search rules)
+    let fits = list_fits turn.before.loop.invariant has frame.place_frame.ensures c.before.end.given.1 in search rules)
     (λ c. let frame = c.before.before.before in let turn = frame.before in let has = frame.before.loop-test.true in
-    let fits = list_fits turn.before.loop.invariant has frame.place-frame.ensures c.before.end.given.1 in search rules)
+    let fits = list_fits turn.before.loop.invariant has frame.place_frame.ensures c.before.end.given.1 in search rules)
     (λ c. let frame = c.before.before.before in let turn = frame.before in let has = frame.before.loop-test.true in
-    let fits = list_fits turn.before.loop.invariant has frame.place-frame.ensures c.before.end.given.1 in search rules)
+    let fits = list_fits turn.before.loop.invariant has frame.place_frame.ensures c.before.end.given.1 in search rules)
     -- the call of `held` on an element, at the same levels
     (λ c κs. let pre = c.before.before.before.before.before.before.before.before.before.before.before.before.requires in
     (omega (arith, pre.0), (pre.1.0, simp (length-take, length-drop) (omega (arith, pre.1.1)))))
     (λ c κs. search rules) (λ c κs. search rules)
     (λ c. let frame = c.before.before.before.before.before.before.before in let turn = frame.before in
     let has = frame.before.loop-test.true in
-    let fits = list_fits turn.before.loop.invariant has frame.place-frame.ensures c.before.before.before.before.before.end.given.1 in
+    let fits = list_fits turn.before.loop.invariant has frame.place_frame.ensures c.before.before.before.before.before.end.given.1 in
     search rules)
     -- one element more
     (λ c. let frame = c.before.before.before.before.before.before.before in let turn = frame.before in
     let has = frame.before.loop-test.true in
-    list_next turn.before.loop.invariant has frame.place-frame.ensures c.before.before.before.before.before.end.given.1 _ c.before.before.held.ensures _ c.before.broken-if.ensures _ c.worse.ensures)
+    list_next turn.before.loop.invariant has frame.place_frame.ensures c.before.before.before.before.before.end.given.1 _ c.before.before.held.ensures _ c.before.broken-if.ensures _ c.worse.ensures)
     (λ c. list_done c.before.loop.invariant c.loop-test.false))
     -- ---- `object_places`
     (λ t. object-places-lts.spec
@@ -126,20 +126,20 @@ pub +held-list-places-object-places-place-typed-spec : {M : Type 1} → statemen
     (λ c κs. search rules) (λ c. search rules) (λ c. search rules)
     -- a frame that is no place
     (λ c. let frame = c.before.before in let turn = frame.before.before in let has = frame.before.if1.false in
-    fields_cut turn.before.loop.invariant turn.loop-test.true has frame.place-frame.ensures c.enum_told.given.1)
+    fields_cut turn.before.loop.invariant turn.loop-test.true has frame.place_frame.ensures c.enum_told.given.1)
     (λ c. let frame = c.before.before.before in let turn = frame.before.before in let has = frame.before.if1.false in
-    let fits = fields_fit turn.before.loop.invariant turn.loop-test.true has frame.place-frame.ensures c.before.end.given.1 in
+    let fits = fields_fit turn.before.loop.invariant turn.loop-test.true has frame.place_frame.ensures c.before.end.given.1 in
     search rules)
     (λ c κs. let frame = c.before.before.before in let turn = frame.before.before in
     field_node-in turn.before.loop.invariant turn.loop-test.true)
     (λ c. let frame = c.before.before.before.before in let turn = frame.before.before in let has = frame.before.if1.false in
-    let fits = fields_fit turn.before.loop.invariant turn.loop-test.true has frame.place-frame.ensures c.before.before.end.given.1 in
+    let fits = fields_fit turn.before.loop.invariant turn.loop-test.true has frame.place_frame.ensures c.before.before.end.given.1 in
     search rules)
     (λ c. let frame = c.before.before.before.before in let turn = frame.before.before in let has = frame.before.if1.false in
-    let fits = fields_fit turn.before.loop.invariant turn.loop-test.true has frame.place-frame.ensures c.before.before.end.given.1 in
+    let fits = fields_fit turn.before.loop.invariant turn.loop-test.true has frame.place_frame.ensures c.before.before.end.given.1 in
     search rules)
     (λ c. let frame = c.before.before.before.before in let turn = frame.before.before in let has = frame.before.if1.false in
-    let fits = fields_fit turn.before.loop.invariant turn.loop-test.true has frame.place-frame.ensures c.before.before.end.given.1 in
+    let fits = fields_fit turn.before.loop.invariant turn.loop-test.true has frame.place_frame.ensures c.before.before.end.given.1 in
     search rules)
     -- the call of `held` on a field, at the same levels
     (λ c κs. let frame = c.before.before.before.before.before in let turn = frame.before.before in
@@ -155,7 +155,7 @@ pub +held-list-places-object-places-place-typed-spec : {M : Type 1} → statemen
     -- one field more
     (λ c. let frame = c.before.before.before.before.before.before.before.before.before.before in
     let turn = frame.before.before in let has = frame.before.if1.false in
-    fields_next turn.before.loop.invariant turn.loop-test.true has frame.place-frame.ensures c.before.before.before.before.before.before.before.before.end.given.1 _ c.before.before.before.before.before.before.field-node.ensures _ c.before.before.before.before.held.ensures _ c.before.before.before.nameless.ensures _ c.before.before.broken-if.ensures _ c.before.worse.ensures _ c.frame-end.ensures)
+    fields_next turn.before.loop.invariant turn.loop-test.true has frame.place_frame.ensures c.before.before.before.before.before.before.before.before.end.given.1 _ c.before.before.before.before.before.before.field-node.ensures _ c.before.before.before.before.held.ensures _ c.before.before.before.nameless.ensures _ c.before.before.broken-if.ensures _ c.before.worse.ensures _ c.frame-end.ensures)
     -- a place too many; all judged
     (λ c. fields_more c.before.before.loop.invariant c.before.loop-test.false c.if2.true)
     (λ c. fields_done c.before.before.loop.invariant c.before.loop-test.false c.if2.false))
