@@ -1,0 +1,14 @@
+-- `enclosed`: the part's head, then the place's.
+use borrow.Author.Rules.{rules}
+use Rattle.putting.proofs.PutLaws.{told_room}
+use Rattle.enclosing.proofs.FrameLaws.{enclosed_full, inner_below, inner_within, inner_short, put_enclosed}
+use Rattle.enclosing.proofs.enclosed.Goals as goal
+
+pub returns-in_default : goal.returns-in_default
+returns-in_default c = search (rules, enclosed_full)
+
+pub head-requires-2 : goal.head-requires-2
+head-requires-2 c = search (rules, told_room, inner_below, inner_within, inner_short)
+
+pub returns : goal.returns
+returns c = search (rules, put_enclosed)

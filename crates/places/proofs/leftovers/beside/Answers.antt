@@ -1,0 +1,12 @@
+-- `beside`: a leftover that reads is judged by rules a, b and c.
+use Rattle.places.proofs.LeftLaws.{beside_unread, beside_ready, beside_judged}
+use Rattle.places.proofs.leftovers.beside.Goals as goal
+
+pub returns-then-not-lawful_left : goal.returns-then-not-lawful_left
+returns-then-not-lawful_left c = beside_unread _ _ _ _ _ _ c.lawful_left.ensures c.if-not-lawful_left.true-raw _
+
+pub beside_broken-requires : goal.beside_broken-requires
+beside_broken-requires c = search beside_ready
+
+pub returns : goal.returns
+returns c = beside_judged _ _ _ _ _ _ c.lawful_left.ensures c.if-not-lawful_left.false-raw _ c.beside_broken.ensures _ _ c.broken_if.ensures

@@ -1,0 +1,62 @@
+use Prim.Native.Nat.{◌-◌}
+use native.Mathlib.Omega.{arith}
+use borrow.Author.Rules.{rules}
+use Rattle.schemas.proofs.NodeLaws.{node_none, node_short, node_unfilled, node_leftover, node_column, node_list, node_fields, node_other}
+use Rattle.schemas.proofs.ObjectLaws.{fields_start, fields_cut, field_passed, fields_fall, fields_bad, fields_next, fields_done}
+use Rattle.schemas.proofs.judge.+fields_node.Goals as goal
+
+pub fields-loop-place-init : goal.fields-loop-place-init
+fields-loop-place-init t c = search (rules, fields_start)
+
+pub fields-returns-then-not-field_within : goal.fields-returns-then-not-field_within
+fields-returns-then-not-field_within t c = search (rules, fields_cut)
+
+pub fields-follows-requires : goal.fields-follows-requires
+fields-follows-requires t c = let here = field_passed c.loop-place.invariant c.requires.1.1 c.loop-place-test.true _ c.field_within.ensures c.if-not-field_within.false-raw in search rules
+
+pub fields-returns-then-not-follows : goal.fields-returns-then-not-follows
+fields-returns-then-not-follows t c = search (rules, fields_fall)
+
+pub fields-frame_end-next-requires : goal.fields-frame_end-next-requires
+fields-frame_end-next-requires t c = let here = field_passed c.loop-place.invariant c.requires.1.1 c.loop-place-test.true _ c.field_within.ensures c.if-not-field_within.false-raw in search rules
+
+pub fields-field_node-requires : goal.fields-field_node-requires
+fields-field_node-requires t c = let here = field_passed c.loop-place.invariant c.requires.1.1 c.loop-place-test.true _ c.field_within.ensures c.if-not-field_within.false-raw in search rules
+
+pub fields-node-requires : goal.fields-node-requires
+fields-node-requires t c = let pre = c.requires in
+    let here = field_passed c.loop-place.invariant pre.1.1 c.loop-place-test.true _ c.field_within.ensures c.if-not-field_within.false-raw in
+    (omega (arith, pre.0), search rules)
+
+pub fields-returns-then-not-node : goal.fields-returns-then-not-node
+fields-returns-then-not-node t c = search (rules, fields_bad)
+
+pub fields-loop-place-preserved : goal.fields-loop-place-preserved
+fields-loop-place-preserved t c = fields_next c.loop-place.invariant c.requires.1.1 c.loop-place-test.true _ c.field_within.ensures c.if-not-field_within.false-raw _ c.follows.ensures c.if-not-follows.false-raw _ _ c.field_node.ensures c.frame_end-next.ensures _ c.node.ensures c.if-not-node.false-raw
+
+pub fields-returns : goal.fields-returns
+fields-returns t c = search (rules, fields_done)
+
+pub node-returns-then-levels-eq0 : goal.node-returns-then-levels-eq0
+node-returns-then-levels-eq0 t c = search (rules, node_none)
+
+pub node-returns-then-to-from-lt3 : goal.node-returns-then-to-from-lt3
+node-returns-then-to-from-lt3 t c = search (rules, node_short)
+
+pub node-returns-then-to-body : goal.node-returns-then-to-body
+node-returns-then-to-body t c = search (rules, node_unfilled)
+
+pub node-returns-then-tag-eq0 : goal.node-returns-then-tag-eq0
+node-returns-then-tag-eq0 t c = search (rules, node_leftover)
+
+pub node-returns-then-tag-eq16 : goal.node-returns-then-tag-eq16
+node-returns-then-tag-eq16 t c = search (rules, node_column)
+
+pub node-returns-then-tag-eq32 : goal.node-returns-then-tag-eq32
+node-returns-then-tag-eq32 t c = search (rules, node_list)
+
+pub node-returns-then-tag-eq48 : goal.node-returns-then-tag-eq48
+node-returns-then-tag-eq48 t c = search (rules, node_fields)
+
+pub node-returns : goal.node-returns
+node-returns t c = search (rules, node_other)
