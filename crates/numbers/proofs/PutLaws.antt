@@ -1,13 +1,13 @@
 -- Bytes put over others from a place on: one byte more at a time, one run after another, and the length that stays.
-use mathlib.Core.List.{List, [], ◌∷◌, ◌++◌, append_assoc, append-nil}
+use mathlib.Core.List.{List, [], ◌∷◌, ◌++◌, append_assoc}
 use mathlib.Core.Path.{◌≡◌, sym, ◌∙◌, subst}
 use Prim.Native.Nat.{ℕ, suc, ◌+◌, ◌-◌, ◌/◌, ◌%◌, ◌^◌, ◌≤◌, ◌<◌}
 use native.Mathlib.Nat.{add-zero, add_assoc}
 use native.Mathlib.Numerals.{add-one}
 use native.Mathlib.Omega.{arith}
 use borrow.Rule.Slice.PartMut.{put_mid}
-use lib.ListN.{length, take, drop, set, length-append, length-take, length-drop, take-append-drop, drop_of_length-le}
-use lib.Seq.{take_all, take-length, take_at, drop_at, drop-drop, take-suc-set, drop-set-lt, append_snoc}
+use lib.ListN.{length, take, drop, set, length-append, length-take, length-drop, take-append-drop}
+use lib.Seq.{take_at, drop_at, drop-drop, take-suc-set, drop-set-lt, append_snoc}
 use Rattle.numbers.specs.Little.{put_at, number_bytes}
 use Rattle.numbers.proofs.NumberLaws.{length-number_bytes, number_bytes-join}
 
@@ -65,13 +65,10 @@ write_join l p q v w k n high h next whole above first_run second_run =
     subst (λ (k : ℕ). put_at (put_at l p first) (p + k) second ≡ put_at l p (first ++ second)) size (put_run l p first second (omega arith)) in
     second_run ∙ rw (next, above, first_run, whole, number_bytes-join) run
 
--- ---- a part from a place on, lent and come back with new bytes in front
+-- ---- a part from a place on, lent and come back as just as many new bytes
 
-pub put_copied : (l new : List ℕ) (p : ℕ) (back : List ℕ) → p + length new ≤ length l
-    → back ≡ take (length new) new ++ drop (length new) (take (length l - p) (drop p l))
-    → put_mid p (length l - p) l back ≡ put_at l p new
+pub put_part : (l new : List ℕ) (p : ℕ) (back : List ℕ) → back ≡ new → put_mid p (p + length new - p) l back ≡ put_at l p new
 unfolding put_at
-put_copied l new p back h e =
-    let rest : take (length l - p) (drop p l) ≡ drop p l = take_all (length l - p) (drop p l) (simp length-drop (omega arith)) in
-    let end : drop (length l - p) (drop p l) ≡ [] = drop_of_length-le (drop p l) {i = length l - p} (simp length-drop (omega arith)) in
-    rw (e, rest, end, take-length, drop-drop, append-nil)
+put_part l new p back e =
+    let many : p + length new - p ≡ length new = omega arith in
+    rw (e, many, drop-drop)

@@ -1,22 +1,6 @@
--- `put`: the part from the place on comes back with the new bytes in front.
-use borrow.Author.Rules.{rules}
-use Rattle.numbers.proofs.PutLaws.{put_copied}
+-- `put`: the part from the place on comes back as the new bytes.
+use Rattle.numbers.proofs.PutLaws.{put_part}
 use Rattle.numbers.proofs.put.Goals as goal
 
--- ?? (λ c. search rules)
--- ?? search rules
-
--- ?? (λ c. search rules)
--- ?? search rules
-
--- ?? (λ c. search rules)
--- ?? search rules
-
--- ?? (λ c κs. search rules)
--- ?? search rules
-
--- ?? (λ c. search rules)
--- ?? search rules
-
--- ?? returns
--- ?? put_copied _ _ _ _ (search rules) c.before.before.copy.ensures.1
+pub returns : goal.returns
+returns c = put_part _ _ _ _ c.copy_from_slice.ensures.after

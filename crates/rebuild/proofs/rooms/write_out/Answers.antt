@@ -13,13 +13,13 @@ pub returns-in_default : goal.returns-in_default
 returns-in_default c = put_nowhere (value_put c.requires.1 c.place-put.ensures) c.in_default.is
 
 pub slice_bounds-hand_out-count : goal.slice_bounds-hand_out-count
-slice_bounds-hand_out-count c = c.requires.1.judged.handed.in_order.first-long
+slice_bounds-hand_out-count c = c.requires.1.judged.handed.in_order.first_long
 
 pub slice_bounds-hand_out-start : goal.slice_bounds-hand_out-start
-slice_bounds-hand_out-start c = let fits = c.requires.1.judged.handed.in_order.first-long in search rules
+slice_bounds-hand_out-start c = let fits = c.requires.1.judged.handed.in_order.first_long in search rules
 
 pub slice_bounds-hand_out-end : goal.slice_bounds-hand_out-end
-slice_bounds-hand_out-end c = let fits = c.requires.1.judged.handed.in_order.second-long in search rules
+slice_bounds-hand_out-end c = let fits = c.requires.1.judged.handed.in_order.second_long in search rules
 
 pub slice_bounds-hand_out-count-2 : goal.slice_bounds-hand_out-count-2
 slice_bounds-hand_out-count-2 c = put_starts (value_put c.requires.1 c.place-put.ensures) c.in-At.is

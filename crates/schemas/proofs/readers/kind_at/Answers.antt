@@ -7,7 +7,7 @@ pub returns-then-tag-eq0 : goal.returns-then-tag-eq0
 returns-then-tag-eq0 c = search (rules, kind_leftover)
 
 pub bounds-schema-place-then-tag-eq16 : goal.bounds-schema-place-then-tag-eq16
-bounds-schema-place-then-tag-eq16 c = c.requires.code-there c.if-tag-eq16.true
+bounds-schema-place-then-tag-eq16 c = c.requires.code_there c.if-tag-eq16.true
 
 pub returns-then-tag-eq16 : goal.returns-then-tag-eq16
 returns-then-tag-eq16 c = search (rules, kind_column)
