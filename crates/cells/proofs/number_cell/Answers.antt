@@ -33,5 +33,5 @@ pub read_signed-requires : goal.read_signed-requires
 read_signed-requires c = (search rules, c.requires.integer c.if-code-eq7.false c.if-code-eq14.false c.if-code-eq20.false)
 
 pub returns : goal.returns
-returns c = ap Integer (to_z-of_z {w = w64} (record { sfits = c.read_signed.type-inv }) ∙ c.read_signed.ensures)
+returns c = ap Integer (to_z-of_z {w = w64} (record { sfits = c.read_signed.type_inv }) ∙ c.read_signed.ensures)
     ∙ integer_read _ _ c.if-code-eq7.false c.if-code-eq14.false c.if-code-eq20.false

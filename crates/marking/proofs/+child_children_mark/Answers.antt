@@ -25,9 +25,8 @@ pub child-slice_bounds-mark-end : goal.child-slice_bounds-mark-end
 child-slice_bounds-mark-end t c = search (rules, child_in)
 
 pub child-mark-requires : goal.child-mark-requires
-child-mark-requires t c = let pre = c.requires in
-    let asks = child_asks pre.1.1 _ c.child_extent.ensures _ c.in-Size.is in
-    (omega (arith, pre.0), (pre.1.0, asks))
+child-mark-requires t c = let asks = child_asks c.requires.1 _ c.child_extent.ensures _ c.in-Size.is in
+    (omega (arith, c.decreases), (c.requires.0, asks))
 
 pub child-returns : goal.child-returns
 child-returns t c = search (rules, child_marked)
@@ -45,9 +44,8 @@ pub children-read-start-requires : goal.children-read-start-requires
 children-read-start-requires t c = next_there c.loop-i.invariant c.loop-i-test.true
 
 pub children-child-requires : goal.children-child-requires
-children-child-requires t c = let pre = c.requires in
-    let asks = next_asks c.loop-i.invariant c.loop-i-test.true _ c.read-start.ensures.0 in
-    (omega (arith, pre.0), (pre.1.0, asks))
+children-child-requires t c = let asks = next_asks c.loop-i.invariant c.loop-i-test.true _ c.read-start.ensures.0 in
+    (omega (arith, c.decreases), (c.requires.0, asks))
 
 pub children-overflow_add-place : goal.children-overflow_add-place
 children-overflow_add-place t c = search (rules, next_fits)
@@ -74,25 +72,23 @@ pub mark-slice_bounds-mark_run-start : goal.mark-slice_bounds-mark_run-start
 mark-slice_bounds-mark_run-start t c = search (rules, ids_begin)
 
 pub mark-mark_run-requires : goal.mark-mark_run-requires
-mark-mark_run-requires t c = run_asks c.requires.1.1 _ c.reading_by-says.ensures _ _ _ c.in-ObjectHead.is _ c.layout_of-l.ensures
+mark-mark_run-requires t c = run_asks c.requires.1 _ c.reading_by-says.ensures _ _ _ c.in-ObjectHead.is _ c.layout_of-l.ensures
 
 pub mark-overflow_sub-levels : goal.mark-overflow_sub-levels
 mark-overflow_sub-levels t c = search (rules, some_level)
 
 pub mark-children-requires : goal.mark-children-requires
-mark-children-requires t c = let pre = c.requires in
-    let left = some_level pre.1.1 in
-    let asks = object_asks pre.1.1 _ c.reading_by-says.ensures _ _ _ c.in-ObjectHead.is _ c.layout_of-l.ensures _ _ c.mark_run.ensures refl in
-    (omega (arith, pre.0), (pre.1.0, asks))
+mark-children-requires t c = let left = some_level c.requires.1 in
+    let asks = object_asks c.requires.1 _ c.reading_by-says.ensures _ _ _ c.in-ObjectHead.is _ c.layout_of-l.ensures _ _ c.mark_run.ensures refl in
+    (omega (arith, c.decreases), (c.requires.0, asks))
 
 pub mark-overflow_sub-levels-in-ArrayHead : goal.mark-overflow_sub-levels-in-ArrayHead
 mark-overflow_sub-levels-in-ArrayHead t c = search (rules, some_level)
 
 pub mark-children-requires-in-ArrayHead : goal.mark-children-requires-in-ArrayHead
-mark-children-requires-in-ArrayHead t c = let pre = c.requires in
-    let left = some_level pre.1.1 in
-    let asks = array_asks pre.1.1 _ c.reading_by-says.ensures _ _ c.in-ArrayHead.is in
-    (omega (arith, pre.0), (pre.1.0, asks))
+mark-children-requires-in-ArrayHead t c = let left = some_level c.requires.1 in
+    let asks = array_asks c.requires.1 _ c.reading_by-says.ensures _ _ c.in-ArrayHead.is in
+    (omega (arith, c.decreases), (c.requires.0, asks))
 
 pub mark-returns-in-Fixed : goal.mark-returns-in-Fixed
 mark-returns-in-Fixed t c = search (rules, fixed_marked)

@@ -6,10 +6,10 @@ use Rattle.signed.proofs.read_signed.Goals as goal
 
 pub returns-then-width-eq8 : goal.returns-then-width-eq8
 returns-then-width-eq8 c = let e = c.if-width-eq8.true in
-    to_z-of_z {w = w64} (record { sfits = c.signed.type-inv }) ∙ c.signed.ensures ∙ rw (c.read8.ensures, e)
+    to_z-of_z {w = w64} (record { sfits = c.signed.type_inv }) ∙ c.signed.ensures ∙ rw (c.read8.ensures, e)
 
 pub read-requires : goal.read-requires
 read-requires c = (c.requires.0, c.requires.1.least, c.requires.1.none_between c.if-width-eq8.false)
 
 pub returns : goal.returns
-returns c = to_z-of_z {w = w64} (record { sfits = c.signed-2.type-inv }) ∙ c.signed-2.ensures ∙ rw c.read.ensures.0
+returns c = to_z-of_z {w = w64} (record { sfits = c.signed-2.type_inv }) ∙ c.signed-2.ensures ∙ rw c.read.ensures.0

@@ -20,7 +20,7 @@ pub bounds-left-0 : goal.bounds-left-0
 bounds-left-0 c = search (rules, lawful_some)
 
 pub returns-in_default : goal.returns-in_default
-returns-in_default c = no_names_lem _ _ c.reading_by-says.ensures (λ k i w e. other_tag (rw e at c.in_default.in_default-own.keys2))
+returns-in_default c = no_names_lem _ _ c.reading_by-says.ensures (λ k i w e. other_tag (rw e at c.in_default.keys2))
 
 pub layout_of-l-requires : goal.layout_of-l-requires
 layout_of-l-requires c = let pre = c.requires in
@@ -36,7 +36,8 @@ slice_bounds-merge-start c = let pre = c.requires in
 
 pub merge-requires : goal.merge-requires
 merge-requires c = let pre = c.requires in
-    merge_asks pre.0 pre.2 c.reading_by-says.ensures c.in-ObjectHead.is c.layout_of-l.ensures pre.3
+    let asks = merge_asks pre.0 pre.2 c.reading_by-says.ensures c.in-ObjectHead.is c.layout_of-l.ensures pre.3 in
+    record { opened = asks.0; ids_value = asks.1.0; some_fields = asks.1.1 }
 
 pub returns : goal.returns
 returns c = let pre = c.requires in

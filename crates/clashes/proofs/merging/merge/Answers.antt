@@ -22,12 +22,12 @@ overflow_add-place c = search (rules, standing_fits)
 
 -- The name of the id comes first, ..
 pub loop-i-preserved-in-Less : goal.loop-i-preserved-in-Less
-loop-i-preserved-in-Less c = let pre = c.requires.0 in
+loop-i-preserved-in-Less c = let pre = c.requires.opened in
     merge_less c.loop-i.invariant pre.2 pre.1 c.if-to-field.false c.loop-i-test.true _ c.input_id_at-id.ensures.0 _ c.stands-order.ensures c.in-Less.is
 
 -- .. both are the same, ..
 pub returns-in-Equal : goal.returns-in-Equal
-returns-in-Equal c = let pre = c.requires.0 in
+returns-in-Equal c = let pre = c.requires.opened in
     merge_equal c.loop-i.invariant pre.2 pre.1 c.if-to-field.false c.loop-i-test.true _ c.input_id_at-id.ensures.0 _ c.stands-order.ensures c.in-Equal.is
 
 pub frame_end-field-requires : goal.frame_end-field-requires
@@ -38,7 +38,7 @@ loop-i-smaller c = search (rules, frame_falls)
 
 -- .. or the name of the field comes first.
 pub loop-i-preserved : goal.loop-i-preserved
-loop-i-preserved c = let pre = c.requires.0 in
+loop-i-preserved c = let pre = c.requires.opened in
     merge_greater c.loop-i.invariant pre.2 pre.1 c.if-to-field.false c.loop-i-test.true _ c.input_id_at-id.ensures.0 _ c.stands-order.ensures c.in-Greater.is _ c.frame_end-field.ensures
 
 pub returns : goal.returns

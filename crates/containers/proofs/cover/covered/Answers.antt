@@ -13,16 +13,31 @@ pub covered_by-requires : goal.covered_by-requires
 covered_by-requires c = let pre = c.requires in
     let lent = c.args in
     let run = numbers lent.width lent.count lent.starts.now in
-    ((pre.0.0, pre.0.1, pre.0.2, pre.0.3, pre.0.4), ((pre.0.5, omega arith, refl), covered_lie lent.area.now run lent.sum pre.1 (search rules)))
+    let own = pre.readings in
+    record {
+      readings = (own.0, own.1, own.2, own.3, own.4);
+      area_len_bound = (own.5, omega arith, refl);
+      starts_value = covered_lie lent.area.now run lent.sum pre.starts_value (search rules)
+    }
 
 pub covered_by-requires-then-area-le16384 : goal.covered_by-requires-then-area-le16384
 covered_by-requires-then-area-le16384 c = let pre = c.requires in
     let lent = c.args in
     let run = numbers lent.width lent.count lent.starts.now in
-    ((pre.0.0, pre.0.1, pre.0.2, pre.0.3, pre.0.4), ((pre.0.5, omega arith, refl), covered_lie lent.area.now run lent.sum pre.1 (search rules)))
+    let own = pre.readings in
+    record {
+      readings = (own.0, own.1, own.2, own.3, own.4);
+      area_len_bound = (own.5, omega arith, refl);
+      starts_value = covered_lie lent.area.now run lent.sum pre.starts_value (search rules)
+    }
 
 pub covered_by-requires-2 : goal.covered_by-requires-2
 covered_by-requires-2 c = let pre = c.requires in
     let lent = c.args in
     let run = numbers lent.width lent.count lent.starts.now in
-    ((pre.0.0, pre.0.1, pre.0.2, pre.0.3, pre.0.4), ((pre.0.5, omega arith, refl), covered_lie lent.area.now run lent.sum pre.1 (search rules)))
+    let own = pre.readings in
+    record {
+      readings = (own.0, own.1, own.2, own.3, own.4);
+      area_len_bound = (own.5, omega arith, refl);
+      starts_value = covered_lie lent.area.now run lent.sum pre.starts_value (search rules)
+    }

@@ -10,7 +10,11 @@ pub mark-requires : goal.mark-requires
 mark-requires c = let pre = c.requires in
     let lent = c.args in
     let run = numbers lent.width lent.count lent.starts.now in
-    ((pre.0.1, pre.0.2, pre.0.3, pre.0.4), covered_below lent.area.now run _ pre.1.1 (8 * length lent.marks.now) pre.1.0.1)
+    let own = pre.readings in
+    record {
+      width_in_bounds = (own.1, own.2, own.3, own.4);
+      starts_value = covered_below lent.area.now run _ pre.starts_value (8 * length lent.marks.now) pre.area_len_bound.1
+    }
 
 pub returns : goal.returns
 returns c = search (rules, covered_walked)

@@ -25,7 +25,7 @@ pub covered-requires : goal.covered-requires
 covered-requires c = let pre = c.requires in
     let asks =
     covered_asks pre.0 c.layout_of-l.ensures _ c.lengths_of-lie.ensures _ c.in-Scattered.is in
-    ((pre.1, asks.0.0, asks.0.1, asks.0.2, asks.0.3, asks.0.4), asks.1)
+    record { readings = (pre.1, asks.0.0, asks.0.1, asks.0.2, asks.0.3, asks.0.4); starts_value = asks.1 }
 
 pub returns-in-EndToEnd : goal.returns-in-EndToEnd
 returns-in-EndToEnd c = search (rules, once_tiled)

@@ -72,9 +72,8 @@ object_places-mark_field-requires t c = field_asks c.loop-field.invariant c.loop
 
 pub object_places-held-requires : goal.object_places-held-requires
 object_places-held-requires t c = let left = c.loop-field-test.true in
-    let pre = c.requires in
     let asks = field_inside c.loop-field.invariant left c.place_frame.ensures c.in-Ends.is _ c.field_node-node.ensures _ _ c.mark_field.ensures in
-    (omega (arith, pre.0), (pre.1.0, asks))
+    (omega (arith, c.decreases), (c.requires.0, asks))
 
 pub object_places-frame_end-field-requires : goal.object_places-frame_end-field-requires
 object_places-frame_end-field-requires t c = search (rules, field_frame_in)
@@ -126,9 +125,8 @@ pub place-slice_bounds-typed-start-in-Both : goal.place-slice_bounds-typed-start
 place-slice_bounds-typed-start-in-Both t c = search (rules, behind_begins)
 
 pub place-typed-requires-in-Both : goal.place-typed-requires-in-Both
-place-typed-requires-in-Both t c = let pre = c.requires in
-    let asks = behind_asks pre.1.1 c.split-parts.ensures c.in-Both.is _ _ _ refl c.mark-in-Both.ensures in
-    (omega (arith, pre.0), (pre.1.0, asks))
+place-typed-requires-in-Both t c = let asks = behind_asks c.requires.1 c.split-parts.ensures c.in-Both.is _ _ _ refl c.mark-in-Both.ensures in
+    (omega (arith, c.decreases), (c.requires.0, asks))
 
 pub place-returns-in-Empty : goal.place-returns-in-Empty
 place-returns-in-Empty t c = search (rules, empty_marked)
@@ -152,9 +150,8 @@ pub typed-overflow_sub-levels : goal.typed-overflow_sub-levels
 typed-overflow_sub-levels t c = search (rules, typed_level)
 
 pub typed-list_places-requires : goal.typed-list_places-requires
-typed-list_places-requires t c = let pre = c.requires in
-    let level = typed_level pre.1.1.there in
-    (omega (arith, pre.0), (pre.1.0, elements_asks pre.1.1 c.kind_at-kind.ensures c.in-List.is))
+typed-list_places-requires t c = let level = typed_level c.requires.1.there in
+    (omega (arith, c.decreases), (c.requires.0, elements_asks c.requires.1 c.kind_at-kind.ensures c.in-List.is))
 
 pub typed-frame_end-to-requires : goal.typed-frame_end-to-requires
 typed-frame_end-to-requires t c = search (rules, typed_frame)
@@ -163,9 +160,8 @@ pub typed-overflow_sub-levels-in-Fields : goal.typed-overflow_sub-levels-in-Fiel
 typed-overflow_sub-levels-in-Fields t c = search (rules, typed_level)
 
 pub typed-object_places-requires : goal.typed-object_places-requires
-typed-object_places-requires t c = let pre = c.requires in
-    let level = typed_level pre.1.1.there in
-    (omega (arith, pre.0), (pre.1.0, members_asks pre.1.1 c.kind_at-kind.ensures c.in-Fields.is _ c.frame_end-to.ensures))
+typed-object_places-requires t c = let level = typed_level c.requires.1.there in
+    (omega (arith, c.decreases), (c.requires.0, members_asks c.requires.1 c.kind_at-kind.ensures c.in-Fields.is _ c.frame_end-to.ensures))
 
 pub typed-returns-in-Leftover : goal.typed-returns-in-Leftover
 typed-returns-in-Leftover t c = search (rules, none_marked)

@@ -32,24 +32,24 @@ note_field-next-requires c = let seen = c.loop-field.invariant in
     let pre = c.requires in
     let present = c.if-at-end.true in
     let id = found_there seen left c.place_frame.ensures c.in-Ends.is present c.field_id.ensures c.in-At.is in (
-      pre.0.1,
-      run_ranked pre.0.0,
+      pre.some_members.1,
+      run_ranked pre.some_members.0,
       seen.left_in,
-      member_room seen left c.place_frame.ensures c.in-Ends.is present pre.1.2 pre.1.3,
+      member_room seen left c.place_frame.ensures c.in-Ends.is present pre.schema_len_bound.2 pre.schema_len_bound.3,
       id.0,
       id.1,
-      omega (arith, place_there seen left, pre.1.1),
-      omega (arith, field_frame seen left, pre.1.0),
+      omega (arith, place_there seen left, pre.schema_len_bound.1),
+      omega (arith, field_frame seen left, pre.schema_len_bound.0),
     )
 
 pub overflow_sub-n : goal.overflow_sub-n
 overflow_sub-n c = c.note_field-next.ensures.forward
 
 pub overflow_add-n : goal.overflow_add-n
-overflow_add-n c = (count_fits c.loop-field.invariant c.note_field-next.ensures.forward c.note_field-next.ensures.within c.requires.1.2 c.well_formed.1.1.1.1.1.1.1.1.1.1.1.0.0).0
+overflow_add-n c = (count_fits c.loop-field.invariant c.note_field-next.ensures.forward c.note_field-next.ensures.within c.requires.schema_len_bound.2 c.well_formed.1.1.1.1.1.1.1.1.1.1.1.0.0).0
 
 pub overflow_add-n-then-at-end : goal.overflow_add-n-then-at-end
-overflow_add-n-then-at-end c = (count_fits c.loop-field.invariant c.note_field-next.ensures.forward c.note_field-next.ensures.within c.requires.1.2 c.well_formed.1.1.1.1.1.1.1.1.1.1.1.0.0).1
+overflow_add-n-then-at-end c = (count_fits c.loop-field.invariant c.note_field-next.ensures.forward c.note_field-next.ensures.within c.requires.schema_len_bound.2 c.well_formed.1.1.1.1.1.1.1.1.1.1.1.0.0).1
 
 pub loop-field-preserved-in-At : goal.loop-field-preserved-in-At
 loop-field-preserved-in-At c = members_present c.loop-field.invariant c.loop-field-test.true c.place_frame.ensures c.in-Ends.is c.frame_end-behind.ensures c.if-at-end.true
@@ -62,13 +62,13 @@ loop-field-preserved c = search (rules, members_absent)
 pub note_left-last-requires : goal.note_left-last-requires
 note_left-last-requires c = let pre = c.requires in
     let seen = c.loop-field.invariant in
-    (pre.0.1, run_ranked pre.0.0, seen.left_in, last_room seen c.loop-field-test.false pre.1.2 pre.1.3)
+    (pre.some_members.1, run_ranked pre.some_members.0, seen.left_in, last_room seen c.loop-field-test.false pre.schema_len_bound.2 pre.schema_len_bound.3)
 
 pub overflow_sub-result : goal.overflow_sub-result
 overflow_sub-result c = c.note_left-last.ensures.forward
 
 pub overflow_add-result : goal.overflow_add-result
-overflow_add-result c = (count_fits c.loop-field.invariant c.note_left-last.ensures.forward c.note_left-last.ensures.within c.requires.1.2 c.well_formed.1.1.1.1.1.1.1.1.1.1.1.0.0).0
+overflow_add-result c = (count_fits c.loop-field.invariant c.note_left-last.ensures.forward c.note_left-last.ensures.within c.requires.schema_len_bound.2 c.well_formed.1.1.1.1.1.1.1.1.1.1.1.0.0).0
 
 pub returns : goal.returns
 returns c = members_done c.loop-field.invariant c.loop-field-test.false (λ i. omega (arith, c.shared_slice_known-1.given i)) c.note_left-last.ensures

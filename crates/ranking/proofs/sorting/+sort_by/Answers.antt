@@ -15,13 +15,13 @@ slice_bounds-sort_by-end-2 t c = first_size c.args.ids.now c.if-half-eq0.false
 
 pub sort_by-requires : goal.sort_by-requires
 sort_by-requires t c = let ids = c.args.ids.now in
-    let pre = c.requires.1 in
+    let pre = c.requires in
     let shorter = first_shorter ids c.if-half-eq0.false in
     (omega arith, (pre.0, half_below ids (length ids / 2) _ pre.1, omega arith))
 
 pub sort_by-requires-2 : goal.sort_by-requires-2
 sort_by-requires-2 t c = let some = c.if-half-eq0.false in
-    let pre = c.requires.1 in
+    let pre = c.requires in
     let ids = c.args.ids.now in
     let names = names_in c.args.metadata.now in
     let half = length ids / 2 in
@@ -30,7 +30,7 @@ sort_by-requires-2 t c = let some = c.if-half-eq0.false in
     (omega arith, (pre.0, second_below names ids half within _ c.sort_by.ensures _ pre.1, search rules))
 
 pub join-requires : goal.join-requires
-join-requires t c = let pre = c.requires.1 in
+join-requires t c = let pre = c.requires in
     let ids = c.args.ids.now in
     let names = names_in c.args.metadata.now in
     let half = length ids / 2 in

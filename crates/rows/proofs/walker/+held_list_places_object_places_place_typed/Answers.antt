@@ -9,13 +9,13 @@ use Rattle.rows.proofs.WalkLaws.{left_ready_lem, typed_none, typed_cell, typed_e
 use Rattle.rows.proofs.walker.+held_list_places_object_places_place_typed.Goals as goal
 
 pub held-plainly_lawful-requires : goal.held-plainly_lawful-requires
-held-plainly_lawful-requires t c = some_node c.requires.1.0
+held-plainly_lawful-requires t c = some_node c.requires.0
 
 pub held-returns-then-plainly_lawful : goal.held-returns-then-plainly_lawful
 held-returns-then-plainly_lawful t c = λ under stands. sym (c.plainly_lawful.ensures c.if-plainly_lawful.true _ _ under stands)
 
 pub held-place-requires : goal.held-place-requires
-held-place-requires t c = let pre = c.requires in (omega (arith, pre.0), pre.1)
+held-place-requires t c = (omega (arith, c.decreases), c.requires)
 
 pub held-returns : goal.held-returns
 held-returns t c = c.place.ensures
@@ -44,8 +44,7 @@ list_places-slice_bounds-held-end t c = let has = c.loop-at-test.true in
     let fits = list_fits c.loop-at.invariant has c.place_frame.ensures c.in-Ends.is in search rules
 
 pub list_places-held-one-requires : goal.list_places-held-one-requires
-list_places-held-one-requires t c = let pre = c.requires in
-    (omega (arith, pre.0), (pre.1.0, simp (length-take, length-drop) (omega (arith, pre.1.1))))
+list_places-held-one-requires t c = (omega (arith, c.decreases), (c.requires.0, simp (length-take, length-drop) (omega (arith, c.requires.1))))
 
 pub list_places-loop-at-smaller : goal.list_places-loop-at-smaller
 list_places-loop-at-smaller t c = let has = c.loop-at-test.true in
@@ -60,7 +59,7 @@ pub list_places-returns : goal.list_places-returns
 list_places-returns t c = list_done c.loop-at.invariant c.loop-at-test.false
 
 pub object_places-loop-field-init : goal.object_places-loop-field-init
-object_places-loop-field-init t c = fields_start c.requires.1.0 _
+object_places-loop-field-init t c = fields_start c.requires.0 _
 
 pub object_places-returns-then-body-at : goal.object_places-returns-then-body-at
 object_places-returns-then-body-at t c = fields_few c.loop-field.invariant c.loop-field-test.true c.if-body-at.true
@@ -93,11 +92,10 @@ object_places-slice_bounds-held-end t c = let has = c.if-body-at.false in
     search rules
 
 pub object_places-held-one-requires : goal.object_places-held-one-requires
-object_places-held-one-requires t c = let pre = c.requires in
-    (omega (arith, pre.0), (field_ready c.loop-field.invariant c.loop-field-test.true refl pre.1.0 _ c.field_node-node.ensures, simp (length-take, length-drop) (omega (arith, pre.1.1))))
+object_places-held-one-requires t c = (omega (arith, c.decreases), (field_ready c.loop-field.invariant c.loop-field-test.true refl c.requires.0 _ c.field_node-node.ensures, simp (length-take, length-drop) (omega (arith, c.requires.1))))
 
 pub object_places-nameless-unnamed-requires : goal.object_places-nameless-unnamed-requires
-object_places-nameless-unnamed-requires t c = field_entry c.loop-field.invariant c.loop-field-test.true c.requires.1.0.tabled
+object_places-nameless-unnamed-requires t c = field_entry c.loop-field.invariant c.loop-field-test.true c.requires.0.tabled
 
 pub object_places-frame_end-field-requires : goal.object_places-frame_end-field-requires
 object_places-frame_end-field-requires t c = field_frame_in c.loop-field.invariant c.loop-field-test.true
@@ -125,7 +123,7 @@ pub place-slice_bounds-alone-end : goal.place-slice_bounds-alone-end
 place-slice_bounds-alone-end t c = let long = one_long _ c.split-parts.ensures c.in-Leftover.is in search rules
 
 pub place-alone-requires : goal.place-alone-requires
-place-alone-requires t c = left_ready_lem c.requires.1.0
+place-alone-requires t c = left_ready_lem c.requires.0
 
 pub place-slice_bounds-typed-count : goal.place-slice_bounds-typed-count
 place-slice_bounds-typed-count t c = let long = typed_long _ c.split-parts.ensures c.in-Typed.is in search rules
@@ -137,8 +135,7 @@ pub place-slice_bounds-typed-end : goal.place-slice_bounds-typed-end
 place-slice_bounds-typed-end t c = let long = typed_long _ c.split-parts.ensures c.in-Typed.is in search rules
 
 pub place-typed-requires : goal.place-typed-requires
-place-typed-requires t c = let pre = c.requires in
-    (omega (arith, pre.0), (pre.1.0, simp (length-take, length-drop) (omega (arith, pre.1.1))))
+place-typed-requires t c = (omega (arith, c.decreases), (c.requires.0, simp (length-take, length-drop) (omega (arith, c.requires.1))))
 
 pub place-overflow_add-behind : goal.place-overflow_add-behind
 place-overflow_add-behind t c = let long = both_long _ c.split-parts.ensures c.in-Both.is in search rules
@@ -153,8 +150,7 @@ pub place-slice_bounds-typed-end-in-Both : goal.place-slice_bounds-typed-end-in-
 place-slice_bounds-typed-end-in-Both t c = let long = both_long _ c.split-parts.ensures c.in-Both.is in search rules
 
 pub place-typed-right-requires : goal.place-typed-right-requires
-place-typed-right-requires t c = let pre = c.requires in
-    (omega (arith, pre.0), (pre.1.0, simp (length-take, length-drop) (omega (arith, pre.1.1))))
+place-typed-right-requires t c = (omega (arith, c.decreases), (c.requires.0, simp (length-take, length-drop) (omega (arith, c.requires.1))))
 
 pub place-slice_bounds-beside-count : goal.place-slice_bounds-beside-count
 place-slice_bounds-beside-count t c = let long = both_long _ c.split-parts.ensures c.in-Both.is in search rules
@@ -166,7 +162,7 @@ pub place-slice_bounds-beside-end : goal.place-slice_bounds-beside-end
 place-slice_bounds-beside-end t c = let long = both_long _ c.split-parts.ensures c.in-Both.is in search rules
 
 pub place-beside-requires : goal.place-beside-requires
-place-beside-requires t c = left_ready_lem c.requires.1.0
+place-beside-requires t c = left_ready_lem c.requires.0
 
 pub place-returns-in-Empty : goal.place-returns-in-Empty
 place-returns-in-Empty t c = λ under stands. sym (place_empty under _ _ _ (told_by _ c.split-parts.ensures c.in-Empty.is))
@@ -184,28 +180,27 @@ pub place-returns-in-Unframed : goal.place-returns-in-Unframed
 place-returns-in-Unframed t c = λ under stands. sym (place_unframed under _ _ _ (told_by _ c.split-parts.ensures c.in-Unframed.is))
 
 pub typed-kind_at-kind-requires : goal.typed-kind_at-kind-requires
-typed-kind_at-kind-requires t c = ready_kind c.requires.1.0
+typed-kind_at-kind-requires t c = ready_kind c.requires.0
 
 pub typed-good-requires : goal.typed-good-requires
-typed-good-requires t c = ready_code c.requires.1.0 c.kind_at-kind.ensures c.in-Column.is
+typed-good-requires t c = ready_code c.requires.0 c.kind_at-kind.ensures c.in-Column.is
 
 pub typed-overflow_sub-levels : goal.typed-overflow_sub-levels
-typed-overflow_sub-levels t c = let level = ready_level c.requires.1.0 in search rules
+typed-overflow_sub-levels t c = let level = ready_level c.requires.0 in search rules
 
 pub typed-list_places-requires : goal.typed-list_places-requires
-typed-list_places-requires t c = let pre = c.requires in
-    let level = ready_level pre.1.0 in
-    (omega (arith, pre.0), (ready_element pre.1.0 c.kind_at-kind.ensures c.in-List.is, pre.1.1))
+typed-list_places-requires t c = let level = ready_level c.requires.0 in
+    (omega (arith, c.decreases), (ready_element c.requires.0 c.kind_at-kind.ensures c.in-List.is, c.requires.1))
 
 pub typed-frame_end-to-requires : goal.typed-frame_end-to-requires
-typed-frame_end-to-requires t c = ready_frame c.requires.1.0
+typed-frame_end-to-requires t c = ready_frame c.requires.0
 
 pub typed-overflow_sub-levels-in-Fields : goal.typed-overflow_sub-levels-in-Fields
-typed-overflow_sub-levels-in-Fields t c = let level = ready_level c.requires.1.0 in search rules
+typed-overflow_sub-levels-in-Fields t c = let level = ready_level c.requires.0 in search rules
 
 pub typed-object_places-requires : goal.typed-object_places-requires
-typed-object_places-requires t c = let pre = c.requires in let level = ready_level pre.1.0 in
-    (omega (arith, pre.0), (ready_fields pre.1.0 c.kind_at-kind.ensures c.in-Fields.is _ c.frame_end-to.ensures, pre.1.1))
+typed-object_places-requires t c = let level = ready_level c.requires.0 in
+    (omega (arith, c.decreases), (ready_fields c.requires.0 c.kind_at-kind.ensures c.in-Fields.is _ c.frame_end-to.ensures, c.requires.1))
 
 pub typed-returns-in-Leftover : goal.typed-returns-in-Leftover
 typed-returns-in-Leftover t c = typed_none c.kind_at-kind.ensures _ _ c.in-Leftover.is

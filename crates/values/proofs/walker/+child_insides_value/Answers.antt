@@ -24,9 +24,8 @@ pub child-slice_bounds-value-end : goal.child-slice_bounds-value-end
 child-slice_bounds-value-end t c = search (rules, child_in)
 
 pub child-value-requires : goal.child-value-requires
-child-value-requires t c = let pre = c.requires in
-    let asks = child_asks _ _ _ c.child_extent.ensures _ c.in-Size.is pre.1.3 in
-    (omega (arith, pre.0), (pre.1.0, pre.1.1, asks.0, asks.1))
+child-value-requires t c = let asks = child_asks _ _ _ c.child_extent.ensures _ c.in-Size.is c.requires.3 in
+    (omega (arith, c.decreases), (c.requires.0, c.requires.1, asks.0, asks.1))
 
 pub child-returns : goal.child-returns
 child-returns t c = search (rules, child_judged)
@@ -41,13 +40,12 @@ pub insides-loop-i-init : goal.insides-loop-i-init
 insides-loop-i-init t c = search (rules, insides_start)
 
 pub insides-read-start-requires : goal.insides-read-start-requires
-insides-read-start-requires t c = let container = c.requires.1.2 in
+insides-read-start-requires t c = let container = c.requires.2 in
     next_there c.loop-i.invariant container.least c.loop-i-test.true container.most
 
 pub insides-child-requires : goal.insides-child-requires
-insides-child-requires t c = let pre = c.requires in
-    let asks = next_asks c.loop-i.invariant pre.1.2.least c.loop-i-test.true _ c.read-start.ensures.0 in
-    (omega (arith, pre.0), (pre.1.0, pre.1.1, asks.0, asks.1))
+insides-child-requires t c = let asks = next_asks c.loop-i.invariant c.requires.2.least c.loop-i-test.true _ c.read-start.ensures.0 in
+    (omega (arith, c.decreases), (c.requires.0, c.requires.1, asks.0, asks.1))
 
 pub insides-returns-then-not-child : goal.insides-returns-then-not-child
 insides-returns-then-not-child t c = search (rules, insides_bad)
@@ -68,7 +66,7 @@ pub value-bounds-s-0 : goal.value-bounds-s-0
 value-bounds-s-0 t c = search (rules, whole_some)
 
 pub value-primitive-requires : goal.value-primitive-requires
-value-primitive-requires t c = fixed_asks _ c.requires.1.2 _ c.reading_by-says.ensures _ _ c.in-Fixed.is
+value-primitive-requires t c = fixed_asks _ c.requires.2 _ c.reading_by-says.ensures _ _ c.in-Fixed.is
 
 pub value-object_lies-requires : goal.value-object_lies-requires
 value-object_lies-requires t c = search (rules, object_container, object_id)
@@ -78,7 +76,7 @@ value-returns-then-not-object_lies t c = search (rules, value_object_not)
 
 pub value-insides-requires : goal.value-insides-requires
 value-insides-requires t c = let there = object_there (names_in c.args.metadata.now) _ _ _ _ _ c.object_lies.ensures c.if-not-object_lies.false-raw in
-    (omega (arith, c.requires.0), (c.requires.1.0, c.requires.1.1, search (rules, object_container), there))
+    (omega (arith, c.decreases), (c.requires.0, c.requires.1, search (rules, object_container), there))
 
 pub value-array_lies-requires : goal.value-array_lies-requires
 value-array_lies-requires t c = search (rules, array_container)
@@ -87,8 +85,7 @@ pub value-returns-then-not-array_lies : goal.value-returns-then-not-array_lies
 value-returns-then-not-array_lies t c = search (rules, value_array_not)
 
 pub value-insides-requires-in-ArrayHead : goal.value-insides-requires-in-ArrayHead
-value-insides-requires-in-ArrayHead t c = let pre = c.requires in
-    (omega (arith, pre.0), (pre.1.0, pre.1.1, search (rules, array_container), search (rules, array_there)))
+value-insides-requires-in-ArrayHead t c = (omega (arith, c.decreases), (c.requires.0, c.requires.1, search (rules, array_container), search (rules, array_there)))
 
 pub value-returns-in-Fixed : goal.value-returns-in-Fixed
 value-returns-in-Fixed t c = search (rules, value_fixed)

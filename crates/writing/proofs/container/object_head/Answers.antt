@@ -14,10 +14,10 @@ pub write_ids-named-requires : goal.write_ids-named-requires
 write_ids-named-requires c = let pre = c.requires in
     let width_is = c.width_of-offset_width.ensures.0 in
     let id_is = c.width_of-id_width.ensures.0 ∙ ap smallest_width c.largest_of.ensures in
-    let behind = start_behind pre.0.1 in
-    let before = offsets_before pre.0.1 _ _ _ width_is pre.0.4 c.write_offsets-offsets.ensures in
-    let fit = ids_fit pre.0.1 _ _ _ width_is pre.0.4 c.write_offsets-offsets.ensures _ id_is in
-    (pre.1.0, pre.1.1, pre.1.2, pre.0.2, pre.1.3, search rules, search rules, fit, omega arith)
+    let behind = start_behind pre.readings.1 in
+    let before = offsets_before pre.readings.1 _ _ _ width_is pre.readings.4 c.write_offsets-offsets.ensures in
+    let fit = ids_fit pre.readings.1 _ _ _ width_is pre.readings.4 c.write_offsets-offsets.ensures _ id_is in
+    (pre.id_in_bounds.0, pre.id_in_bounds.1, pre.id_in_bounds.2, pre.readings.2, pre.id_in_bounds.3, search rules, search rules, fit, omega arith)
 
 pub opened-requires : goal.opened-requires
 opened-requires c = let pre = c.requires in
@@ -25,12 +25,12 @@ opened-requires c = let pre = c.requires in
     let id_is = c.width_of-id_width.ensures.0 ∙ ap smallest_width c.largest_of.ensures in
     let offsets = c.write_offsets-offsets.ensures in
     let ids = c.write_ids-named.ensures in
-    let many = ranks_length _ _ _ _ pre.1.0 pre.1.1 in
-    let behind = start_behind pre.0.1 in
-    let before = offsets_before pre.0.1 _ _ _ width_is pre.0.4 offsets in
+    let many = ranks_length _ _ _ _ pre.id_in_bounds.0 pre.id_in_bounds.1 in
+    let behind = start_behind pre.readings.1 in
+    let before = offsets_before pre.readings.1 _ _ _ width_is pre.readings.4 offsets in
     let size = ids.size in
-    (search rules, object_opens pre.0.1 _ _ _ width_is pre.0.4 offsets _ id_is _ many ids, omega arith)
+    (search rules, object_opens pre.readings.1 _ _ _ width_is pre.readings.4 offsets _ id_is _ many ids, omega arith)
 
 pub returns : goal.returns
-returns c = object_headed _ _ c.width_of-offset_width.ensures.0 c.requires.0.3 c.write_offsets-offsets.ensures _ _
+returns c = object_headed _ _ c.width_of-offset_width.ensures.0 c.requires.readings.3 c.write_offsets-offsets.ensures _ _
     (c.width_of-id_width.ensures.0 ∙ ap smallest_width c.largest_of.ensures) c.write_ids-named.ensures c.opened.ensures
