@@ -1,80 +1,30 @@
 -- `box_in`: side by side, then by their order.
-use borrow.Author.Rules.{rules}
 use Rattle.paper.specs.Boxes.{east, north, south, west}
 use Rattle.boxes.proofs.BoxLaws.{no_east, no_north, no_south, no_west, four_sides, box_read}
 use Rattle.boxes.proofs.box_in.Goals as goal
 
--- ?? (λ c. search rules)
--- ?? search rules
+pub returns-in_default : goal.returns-in_default
+unfolding east
+returns-in_default c = no_east _ c.in_default.is c.side_in.ensures
 
--- ?? (λ c κs. search rules)
--- ?? search rules
+pub returns-in_default-side_in : goal.returns-in_default-side_in
+unfolding north
+returns-in_default-side_in c = no_north _ c.in_default-side_in.is c.side_in-2.ensures
 
--- ?? (λ c. search rules)
--- ?? search rules
+pub returns-in_default-side_in-2 : goal.returns-in_default-side_in-2
+unfolding south
+returns-in_default-side_in-2 c = no_south _ c.in_default-side_in-2.is c.side_in-3.ensures
 
--- ?? (λ c. search rules)
--- ?? search rules
+pub returns-in_default-side_in-3 : goal.returns-in_default-side_in-3
+unfolding west
+returns-in_default-side_in-3 c = no_west _ c.in_default-side_in-3.is c.side_in-4.ensures
 
--- ?? returns
--- ?? no_east _ c.enum_told.given.1 c.before.before.side-in.ensures
-
--- ?? (λ c. search rules)
--- ?? search rules
-
--- ?? (λ c κs. search rules)
--- ?? search rules
-
--- ?? (λ c. search rules)
--- ?? search rules
-
--- ?? (λ c. search rules)
--- ?? search rules
-
--- ?? returns-2
--- ?? no_north _ c.enum-told2.given.1 c.before.before.side-in2.ensures
-
--- ?? (λ c. search rules)
--- ?? search rules
-
--- ?? (λ c κs. search rules)
--- ?? search rules
-
--- ?? (λ c. search rules)
--- ?? search rules
-
--- ?? (λ c. search rules)
--- ?? search rules
-
--- ?? returns-3
--- ?? no_south _ c.enum-told3.given.1 c.before.before.side-in3.ensures
-
--- ?? (λ c. search rules)
--- ?? search rules
-
--- ?? (λ c κs. search rules)
--- ?? search rules
-
--- ?? (λ c. search rules)
--- ?? search rules
-
--- ?? (λ c. search rules)
--- ?? search rules
-
--- ?? returns-4
--- ?? no_west _ c.enum-told4.given.1 c.before.before.side-in4.ensures
-
--- ?? (λ c κs. search rules)
--- ?? search rules
-
--- ?? returns-5
--- ?? let w = c.before.before in
--- ??     let s = w.before.before.before.before.before in
--- ??     let n = s.before.before.before.before.before in
--- ??     let e = n.before.before.before.before.before in
--- ??     box_read _
--- ??     (four_sides _ e.east.given.1 e.before.before.side-in.ensures
--- ??     n.north.given.1 n.before.before.side-in2.ensures
--- ??     s.south.given.1 s.before.before.side-in3.ensures
--- ??     w.west.given.1 w.before.before.side-in4.ensures)
--- ??     c.ordered.ensures
+pub returns : goal.returns
+unfolding east north south west
+returns c =
+    box_read _
+    (four_sides _ c.in-Double.is c.side_in.ensures
+    c.in-Double-side_in.is c.side_in-2.ensures
+    c.in-Double-side_in-2.is c.side_in-3.ensures
+    c.in-Double-side_in-3.is c.side_in-4.ensures)
+    c.ordered.ensures
