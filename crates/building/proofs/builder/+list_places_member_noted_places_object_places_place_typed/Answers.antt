@@ -1,259 +1,252 @@
--- A place, what is typed in it, a list's places and an object's: each part is written in front of those behind it. A call takes a
--- level, or keeps it and goes on from an object to its members, to their places, to what is typed in them.
 use mathlib.Core.Path.{refl, sym, ◌∙◌}
-use Prim.Native.Nat.{ℕ}
 use native.Mathlib.Omega.{arith}
 use borrow.Author.Rules.{rules}
 use lib.ListN.{length-take, length-drop}
-use Rattle.numbers.proofs.Cycle.{GivenAt}
 use Rattle.containers.proofs.LayoutLaws.{ids_in, starts_in, area_same}
 use Rattle.places.proofs.PlaceLaws.{one_long, typed_long, both_long}
 use Rattle.rebuilt.proofs.ThereLaws.{typed_kind, typed_level, typed_frame, typed_code, typed_cell, typed_never, place_framed}
 use Rattle.building.proofs.CallLaws.{member_known, member_in, member_leftover, member_left, member_framed, member_node, member_whole, member_fits, member_place, member_placed}
 use Rattle.building.proofs.LeftLaws.{left_read, left_container}
-use Rattle.building.proofs.ListLaws.{ListSeen, list_noting, list_start, list_in, list_frame_in, list_whole, list_fits, list-place_ready, list_full, list_next, list_lying, list_few, list_put}
-use Rattle.building.proofs.NotedLaws.{NotedSeen, noted_start, noted_in, noted_member, noted_full, noted_next, noted_lying, noted_few, noted-ids_in, noted_ranked, noted_put}
+use Rattle.building.proofs.ListLaws.{list_noting, list_start, list_in, list_frame_in, list_whole, list_fits, list-place_ready, list_full, list_next, list_lying, list_few, list_put}
+use Rattle.building.proofs.NotedLaws.{noted_start, noted_in, noted_member, noted_full, noted_next, noted_lying, noted_few, noted-ids_in, noted_ranked, noted_put}
 use Rattle.building.proofs.ObjectLaws.{left_begins, no_other, object_some, object_run, object_sizes, object_put, object_notes}
 use Rattle.building.proofs.PlacedLaws.{placed_empty, placed_left, placed_typed, placed_both, put_cell, put_list, put_fields}
 use Rattle.building.proofs.ReadyLaws.{alone_ready, only_ready, beside_ready, elements_ready, members_ready}
 use Rattle.building.proofs.builder.+list_places_member_noted_places_object_places_place_typed.Goals as goal
 
-abbrev list-places-Inv-loop : list-places-lts.invariant-loop
-list-places-Inv-loop levels readings ranks schema table node body places₀ ids₀ out₀ floor end count start₀ i₀ places ids out start i =
-    ListSeen levels ranks schema table node body places₀ ids₀ out₀ floor end count places ids out start i
+pub list_places-note_elements-count-requires : goal.list_places-note_elements-count-requires
+list_places-note_elements-count-requires t c = search (rules, list_noting)
 
-abbrev list-places-μ-loop : list-places-lts.decreases-loop
-list-places-μ-loop levels readings ranks schema table node body places₀ ids₀ out₀ floor end count start₀ i₀ places ids out start i =
-    i
+pub list_places-loop-i-init : goal.list_places-loop-i-init
+list_places-loop-i-init t c = search (rules, list_start)
 
-abbrev noted-places-Inv-loop : noted-places-lts.invariant-loop
-noted-places-Inv-loop levels readings ranks schema table area body count places₀ ids₀ out₀ floor end used start₀ i₀ places ids out start i =
-    NotedSeen levels ranks schema table area body places₀ ids₀ out₀ floor end count places ids out start i
+pub list_places-spot-at-requires : goal.list_places-spot-at-requires
+list_places-spot-at-requires t c = search (rules, list_in)
 
-abbrev noted-places-μ-loop : noted-places-lts.decreases-loop
-noted-places-μ-loop levels readings ranks schema table area body count places₀ ids₀ out₀ floor end used start₀ i₀ places ids out start i =
-    i
+pub list_places-place_frame-requires : goal.list_places-place_frame-requires
+list_places-place_frame-requires t c = search (rules, list_frame_in)
 
-list-places-closed : {M : Type 1} (t : ℕ) → list-places-lts.Closed (list-places-claims t) (GivenAt μ-list-places list-places.Pre t) list-places.Post M
-list-places-closed t = list-places-lts.spec (list-places-claims t) (GivenAt μ-list-places list-places.Pre t) list-places.Post
-    list-places-Inv-loop
-    list-places-μ-loop
-    (λ c κs. search (rules, list_noting))
-    (λ c. search (rules, list_start))
-    (λ c. search rules)
-    (λ c κs. search (rules, list_in))
-    (λ c κs. search (rules, list_frame_in))
-    (λ c. search rules)
-    (λ c. search rules)
-    (λ c. search rules)
-    (λ c. search rules)
-    (λ c. search rules)
-    -- a frame that is no place: there is none
-    (λ c. λ element stands. absurd (list_whole c.before.before.before.before.before.before.before.before.before.before.before.before.before.before.before.before.before.before.before.requires.1.2 c.before.before.before.before.before.before.loop.invariant c.before.before.before.before.before.loop-test.true _ c.before.before.before.spot.ensures c.before.before.place-frame.ensures c.enum_told.given.1))
-    (λ c. let fits = list_fits c.before.before.before.before.before.before.before.before.before.before.before.before.before.before.before.before.before.before.before.before.requires.1.2 c.before.before.before.before.before.before.before.loop.invariant c.before.before.before.before.before.before.loop-test.true _ c.before.before.before.before.spot.ensures c.before.before.before.place-frame.ensures c.before.to.given.1 in search rules)
-    (λ c. let fits = list_fits c.before.before.before.before.before.before.before.before.before.before.before.before.before.before.before.before.before.before.before.before.requires.1.2 c.before.before.before.before.before.before.before.loop.invariant c.before.before.before.before.before.before.loop-test.true _ c.before.before.before.before.spot.ensures c.before.before.before.place-frame.ensures c.before.to.given.1 in search rules)
-    (λ c. let fits = list_fits c.before.before.before.before.before.before.before.before.before.before.before.before.before.before.before.before.before.before.before.before.requires.1.2 c.before.before.before.before.before.before.before.loop.invariant c.before.before.before.before.before.before.loop-test.true _ c.before.before.before.before.spot.ensures c.before.before.before.place-frame.ensures c.before.to.given.1 in search rules)
-    (λ c. let fits = list_fits c.before.before.before.before.before.before.before.before.before.before.before.before.before.before.before.before.before.before.before.before.requires.1.2 c.before.before.before.before.before.before.before.loop.invariant c.before.before.before.before.before.before.loop-test.true _ c.before.before.before.before.spot.ensures c.before.before.before.place-frame.ensures c.before.to.given.1 in search rules)
-    (λ c. search rules)
-    (λ c. search rules)
-    (λ c. search rules)
-    (λ c. search rules)
-    -- the call of `place` on an element, at the same levels
-    (λ c κs. let pre = c.before.before.before.before.before.before.before.before.before.before.before.before.before.before.before.before.before.before.before.before.before.before.before.before.requires in let seen = c.before.before.before.before.before.before.before.before.before.before.before.loop.invariant in (
-      omega (arith, pre.0),
+pub list_places-returns-in_default : goal.list_places-returns-in_default
+list_places-returns-in_default t c = λ element stands. absurd (list_whole c.requires.2 c.loop-i.invariant c.loop-i-test.true _ c.spot-at.ensures c.place_frame.ensures c.in_default.is)
+
+pub list_places-overflow_add-inner : goal.list_places-overflow_add-inner
+list_places-overflow_add-inner t c = let fits = list_fits c.requires.2 c.loop-i.invariant c.loop-i-test.true _ c.spot-at.ensures c.place_frame.ensures c.in-Ends.is in search rules
+
+pub list_places-slice_bounds-place-count : goal.list_places-slice_bounds-place-count
+list_places-slice_bounds-place-count t c = let fits = list_fits c.requires.2 c.loop-i.invariant c.loop-i-test.true _ c.spot-at.ensures c.place_frame.ensures c.in-Ends.is in search rules
+
+pub list_places-slice_bounds-place-start : goal.list_places-slice_bounds-place-start
+list_places-slice_bounds-place-start t c = let fits = list_fits c.requires.2 c.loop-i.invariant c.loop-i-test.true _ c.spot-at.ensures c.place_frame.ensures c.in-Ends.is in search rules
+
+pub list_places-slice_bounds-place-end : goal.list_places-slice_bounds-place-end
+list_places-slice_bounds-place-end t c = let fits = list_fits c.requires.2 c.loop-i.invariant c.loop-i-test.true _ c.spot-at.ensures c.place_frame.ensures c.in-Ends.is in search rules
+
+pub list_places-place-one-requires : goal.list_places-place-one-requires
+list_places-place-one-requires t c = let seen = c.loop-i.invariant in (
+      omega (arith, c.decreases),
       (
-        pre.1.0,
+        c.requires.0,
         seen.room,
-        list-place_ready c.before.before.before.before.before.before.before.before.before.before.before.before.before.before.before.before.before.before.before.before.before.before.before.before.requires.1.2 c.before.before.before.before.before.before.before.before.before.before.before.loop.invariant c.before.before.before.before.before.before.before.before.before.before.loop-test.true _ c.before.before.before.before.before.before.before.before.spot.ensures c.before.before.before.before.before.before.before.place-frame.ensures c.before.before.before.before.before.to.given.1 c.before.before.before.before.before.before.before.before.before.before.before.before.before.before.note-elements.auto.1.0 refl _ _ (simp (length-take, length-drop) (omega arith)) refl,
+        list-place_ready c.requires.2 c.loop-i.invariant c.loop-i-test.true _ c.spot-at.ensures c.place_frame.ensures c.in-Ends.is c.note_elements-count.auto.places refl _ _ (simp (length-take, length-drop) (omega arith)) refl,
       ),
-    ))
-    (λ c. search rules)
-    (λ c. search rules)
-    (λ c. search rules)
-    (λ c. search rules)
-    (λ c. search rules)
-    -- an element that would reach below the floor
-    (λ c. list_full c.before.before.before.before.before.before.before.before.before.before.before.before.before.before.before.before.before.before.before.before.before.before.before.before.before.before.before.before.before.before.before.before.before.requires.1.2 c.before.before.before.before.before.before.before.before.before.before.before.before.before.before.before.before.before.before.before.before.loop.invariant c.before.before.before.before.before.before.before.before.before.before.before.before.before.before.before.before.before.before.before.loop-test.true _ c.before.before.before.before.before.before.before.before.before.before.before.before.before.before.before.before.before.spot.ensures c.before.before.before.before.before.before.before.before.before.before.before.before.before.before.before.before.place-frame.ensures c.before.before.before.before.before.before.before.before.before.before.before.before.before.before.to.given.1 c.before.before.before.before.before.before.before.before.place.ensures c.enum-told2.given.1 _)
-    (λ c. search rules)
-    -- one element more stands in front
-    (λ c. list_next c.before.before.before.before.before.before.before.before.before.before.before.before.before.before.before.before.before.before.before.before.before.before.before.before.before.before.before.before.before.before.before.before.before.before.requires.1.2 c.before.before.before.before.before.before.before.before.before.before.before.before.before.before.before.before.before.before.before.before.before.loop.invariant c.before.before.before.before.before.before.before.before.before.before.before.before.before.before.before.before.before.before.before.before.loop-test.true _ c.before.before.before.before.before.before.before.before.before.before.before.before.before.before.before.before.before.before.spot.ensures c.before.before.before.before.before.before.before.before.before.before.before.before.before.before.before.before.before.place-frame.ensures c.before.before.before.before.before.before.before.before.before.before.before.before.before.before.before.to.given.1 c.before.before.before.before.before.before.before.before.before.place.ensures c.before.one.given.1 refl c.before.before.before.before.before.before.before.before.before.place.auto.1.1.1.1.1.1.1.1.0 c.before.before.before.before.before.before.before.before.before.place.new.1.1.1.1.1.1.1.0 c.before.before.before.before.before.before.before.before.before.place.auto.1.1.1.1.1.1.1.0)
-    -- what the head asks
-    (λ c κs. let pre = c.before.before.before.before.before.before.before.before.before.before.before.before.before.before.before.requires in let seen = c.before.before.loop.invariant in let over = c.before.loop-test.false in let same = seen.out_size in let fits = pre.1.1.within in
-    (pre.1.0, seen.room, list_lying pre.1.2 seen (omega arith), list_few pre.1.2 seen, omega arith))
-    (λ c. search rules)
-    (λ c. search rules)
-    (λ c. search rules)
-    -- the head in front of the elements
-    (λ c. let over = c.before.before.before.before.loop-test.false in list_put c.before.before.before.before.before.before.before.before.before.before.before.before.before.before.before.before.before.before.requires.1.2 c.before.before.before.before.before.loop.invariant (omega arith) c.before.before.array.ensures)
+    )
 
-member-closed : {M : Type 1} (t : ℕ) → member-lts.Closed (member-claims t) (GivenAt μ-member member.Pre t) member.Post M
-member-closed t = member-lts.spec (member-claims t) (GivenAt μ-member member.Pre t) member.Post
-    (λ c κs. search rules)
-    (λ c. search rules)
-    (λ c. search rules)
-    -- a leftover's member has a length
-    (λ c. λ one ready. absurd (member_known c.before.before.before.if1.true c.before.before.child-extent.ensures c.enum_told.given.1 one ready))
-    (λ c. let fits = member_in c.before.before.before.before.if1.true c.before.before.before.child-extent.ensures c.before.size.given.1 c.before.before.before.before.before.before.before.before.before.before.before.before.before.before.requires.1.2 in search rules)
-    (λ c. search rules)
-    (λ c. search rules)
-    (λ c. let fits = member_in c.before.before.before.before.if1.true c.before.before.before.child-extent.ensures c.before.size.given.1 c.before.before.before.before.before.before.before.before.before.before.before.before.before.before.requires.1.2 in search rules)
-    -- a leftover's member
-    (λ c κs. let pre = c.before.before.before.before.before.before.before.before.before.before.before.before.before.before.before.before.requires in (pre.1.0, pre.1.1, member_leftover c.before.before.before.before.before.before.if1.true c.before.before.before.before.before.child-extent.ensures c.before.before.before.size.given.1 pre.1.2))
-    (λ c. search rules)
-    (λ c. member_left c.before.before.before.before.before.before.before.before.before.if1.true c.before.before.before.before.before.before.before.before.child-extent.ensures c.before.before.before.before.before.before.size.given.1 c.before.before.leftover.ensures)
-    (λ c κs. member_framed c.if1.false c.before.before.before.before.before.before.before.before.before.before.requires.1.2)
-    (λ c. search rules)
-    (λ c. search rules)
-    -- a place has its frame
-    (λ c. λ one ready. absurd (member_whole c.before.before.before.if1.false c.before.before.place-frame.ensures c.enum-told2.given.1 one ready))
-    (λ c. let fits = member_fits _ _ c.before.before.before.place-frame.ensures c.before.to.given.1 in search rules)
-    (λ c κs. member_node c.before.before.before.before.if1.false c.before.before.before.before.before.before.before.before.before.before.before.before.before.before.requires.1.2)
-    (λ c. let fits = member_fits _ _ c.before.before.before.before.place-frame.ensures c.before.before.to.given.1 in search rules)
-    (λ c. let fits = member_fits _ _ c.before.before.before.before.place-frame.ensures c.before.before.to.given.1 in search rules)
-    (λ c. let fits = member_fits _ _ c.before.before.before.before.place-frame.ensures c.before.before.to.given.1 in search rules)
-    -- the call of `place` on a field, at the same levels
-    (λ c κs. let pre = c.before.before.before.before.before.before.before.before.before.before.before.before.before.before.before.before.before.before.before.requires in (omega (arith, pre.0), (pre.1.0, pre.1.1, member_place c.before.before.before.before.before.before.before.before.before.if1.false c.before.before.before.before.before.before.before.before.place-frame.ensures c.before.before.before.before.before.before.to.given.1 pre.1.2 _ c.before.before.before.before.field-node.ensures)))
-    (λ c. search rules)
-    (λ c. search rules)
-    (λ c. search rules)
-    (λ c. member_placed c.before.before.before.before.before.before.before.before.before.before.before.before.before.before.before.before.if1.false c.before.before.before.before.before.before.before.before.before.before.before.before.before.before.before.place-frame.ensures c.before.before.before.before.before.before.before.before.before.before.before.before.before.to.given.1 _ c.before.before.before.before.before.before.before.before.before.before.before.field-node.ensures c.before.before.before.before.before.before.place.ensures)
+pub list_places-returns-in_default-one : goal.list_places-returns-in_default-one
+list_places-returns-in_default-one t c = list_full c.requires.2 c.loop-i.invariant c.loop-i-test.true _ c.spot-at.ensures c.place_frame.ensures c.in-Ends.is c.place-one.ensures c.in_default-one.is _
 
-noted-places-closed : {M : Type 1} (t : ℕ) → noted-places-lts.Closed (noted-places-claims t) (GivenAt μ-noted-places noted-places.Pre t) noted-places.Post M
-noted-places-closed t = noted-places-lts.spec (noted-places-claims t) (GivenAt μ-noted-places noted-places.Pre t) noted-places.Post
-    noted-places-Inv-loop
-    noted-places-μ-loop
-    (λ c. search rules)
-    (λ c. noted_start c.before.before.before.before.before.before.before.before.before.requires.1.1)
-    (λ c. search rules)
-    (λ c. search rules)
-    (λ c κs. let inside = noted_in c.before.before.before.before.before.before.before.before.before.before.before.before.requires.1.2 c.before.before.loop.invariant c.before.loop-test.true in omega arith)
-    (λ c. search rules)
-    (λ c. search rules)
-    (λ c κs. let inside = noted_in c.before.before.before.before.before.before.before.before.before.before.before.before.before.before.requires.1.2 c.before.before.before.before.loop.invariant c.before.before.before.loop-test.true in omega arith)
-    (λ c. search rules)
-    (λ c. search rules)
-    (λ c. search rules)
-    (λ c. search rules)
-    (λ c. search rules)
-    (λ c. search rules)
-    (λ c. search rules)
-    -- the call of `member` on what was noted, at the same levels
-    (λ c κs. let pre = c.before.before.before.before.before.before.before.before.before.before.before.before.before.before.before.before.before.before.requires in let seen = c.before.before.before.before.before.before.before.before.loop.invariant in (omega (arith, pre.0), (pre.1.0, seen.room, noted_member pre.1.2 c.before.before.before.before.before.before.before.before.loop.invariant c.before.before.before.before.before.before.before.loop-test.true _ _ c.before.before.before.before.before.spot.ensures c.before.before.before.spot2.ensures _ _ (simp (length-take, length-drop) (omega arith)) (simp (length-take, length-drop) (omega arith)))))
-    (λ c. search rules)
-    (λ c. search rules)
-    (λ c. search rules)
-    (λ c. search rules)
-    (λ c. search rules)
-    -- a member that would reach below the floor
-    (λ c. λ ready. noted_full ready c.before.before.before.before.before.before.before.before.before.before.before.before.before.before.before.before.before.loop.invariant c.before.before.before.before.before.before.before.before.before.before.before.before.before.before.before.before.loop-test.true _ _ c.before.before.before.before.before.before.before.before.before.before.before.before.before.before.spot.ensures c.before.before.before.before.before.before.before.before.before.before.before.before.spot2.ensures _ _ (simp (length-take, length-drop) (omega arith)) (simp (length-take, length-drop) (omega arith)) c.before.before.before.before.before.before.before.before.member.ensures c.enum_told.given.1 _)
-    (λ c. search rules)
-    -- one member more stands in front
-    (λ c. noted_next c.before.before.before.before.before.before.before.before.before.before.before.before.before.before.before.before.before.before.before.before.before.before.before.before.before.before.before.before.requires.1.2 c.before.before.before.before.before.before.before.before.before.before.before.before.before.before.before.before.before.before.loop.invariant c.before.before.before.before.before.before.before.before.before.before.before.before.before.before.before.before.before.loop-test.true _ _ c.before.before.before.before.before.before.before.before.before.before.before.before.before.before.before.spot.ensures c.before.before.before.before.before.before.before.before.before.before.before.before.before.spot2.ensures _ _ (simp (length-take, length-drop) (omega arith)) (simp (length-take, length-drop) (omega arith)) c.before.before.before.before.before.before.before.before.before.member.ensures c.before.one.given.1 _ refl c.before.before.before.before.before.before.before.before.before.member.new.1.1.1.1.1.1.1.1.1.0 c.before.before.before.before.before.before.before.before.before.member.auto.1.1.1.1.1.1.1.1.1.0 c.before.before.before.before.before.before.before.before.before.member.new.1.1.1.1.1.1.1.1.1.1.0 c.before.before.before.before.before.before.before.before.before.member.auto.1.1.1.1.1.1.1.1.1.1.0)
-    -- what the head asks
-    (λ c κs. let pre = c.before.before.before.before.before.before.before.before.before.before.before.before.before.requires in let seen = c.before.before.before.loop.invariant in let over = c.before.before.loop-test.false in let same = seen.out_size in let fits = pre.1.1.within in
-    ((pre.1.0, seen.room, noted_lying pre.1.2 seen (omega arith), noted_few pre.1.2 seen, omega arith), (noted-ids_in pre.1.2 seen, noted_ranked pre.1.2 seen)))
-    (λ c. search rules)
-    (λ c. search rules)
-    (λ c. search rules)
-    -- the head in front of the members
-    (λ c. λ ready. let over = c.before.before.before.before.before.loop-test.false in noted_put ready c.before.before.before.before.before.before.loop.invariant (omega arith) c.before.before.object.ensures)
+pub list_places-loop-i-preserved : goal.list_places-loop-i-preserved
+list_places-loop-i-preserved t c = list_next c.requires.2 c.loop-i.invariant c.loop-i-test.true _ c.spot-at.ensures c.place_frame.ensures c.in-Ends.is c.place-one.ensures c.in-At.is refl c.place-one.auto.ids c.place-one.new.places c.place-one.auto.places
 
-object-places-closed : {M : Type 1} (t : ℕ) → object-places-lts.Closed (object-places-claims t) (GivenAt μ-object-places object-places.Pre t) object-places.Post M
-object-places-closed t = object-places-lts.spec (object-places-claims t) (GivenAt μ-object-places object-places.Pre t) object-places.Post
-    (λ c. search (rules, left_begins))
-    (λ c κs. search rules)
-    (λ c. search rules)
-    -- the leftover is an object
-    (λ c. λ columns stand. let read = left_read c.before.before.before.before.before.before.before.before.before.before.before.before.requires.1.2.beside in let is = c.before.reading-by.ensures ∙ read.is in let keys = rw is at c.match.keys2 in absurd (no_other keys))
-    (λ c κs. left_container c.before.before.before.before.before.before.before.before.before.before.before.before.before.before.requires.1.2.beside _ _ _ (sym c.before.before.before.reading-by.ensures ∙ c.before.says.given.1))
-    (λ c. search rules)
-    (λ c. let inside = ids_in _ _ _ _ (left_container c.before.before.before.before.before.before.before.before.before.before.before.before.before.before.before.requires.1.2.beside _ _ _ (sym c.before.before.before.before.reading-by.ensures ∙ c.before.before.says.given.1)) _ c.layout_of.ensures in search rules)
-    (λ c. let inside = ids_in _ _ _ _ (left_container c.before.before.before.before.before.before.before.before.before.before.before.before.before.before.before.requires.1.2.beside _ _ _ (sym c.before.before.before.before.reading-by.ensures ∙ c.before.before.says.given.1)) _ c.layout_of.ensures in search rules)
-    (λ c. search rules)
-    (λ c. let inside = starts_in _ _ _ _ (left_container c.before.before.before.before.before.before.before.before.before.before.before.before.before.before.before.before.requires.1.2.beside _ _ _ (sym c.before.before.before.before.before.reading-by.ensures ∙ c.before.before.before.says.given.1)) _ c.before.layout_of.ensures in search rules)
-    (λ c. let inside = starts_in _ _ _ _ (left_container c.before.before.before.before.before.before.before.before.before.before.before.before.before.before.before.before.requires.1.2.beside _ _ _ (sym c.before.before.before.before.before.reading-by.ensures ∙ c.before.before.before.says.given.1)) _ c.before.layout_of.ensures in search rules)
-    (λ c. search rules)
-    -- what the noting asks
-    (λ c κs. ((object_some c.before.before.before.before.before.before.before.before.before.before.before.before.before.before.before.before.before.before.before.requires.1.2 _ _ _ (sym c.before.before.before.before.before.before.before.before.reading-by.ensures ∙ c.before.before.before.before.before.before.says.given.1) _ c.before.before.before.before.layout_of.ensures, object_run c.before.before.before.before.before.before.before.before.before.before.before.before.before.before.before.before.before.before.before.requires.1.2 _ _ _ (sym c.before.before.before.before.before.before.before.before.reading-by.ensures ∙ c.before.before.before.before.before.before.says.given.1) _ c.before.before.before.before.layout_of.ensures), object_sizes c.before.before.before.before.before.before.before.before.before.before.before.before.before.before.before.before.before.before.before.requires.1.2 _ _ _ (sym c.before.before.before.before.before.before.before.before.reading-by.ensures ∙ c.before.before.before.before.before.before.says.given.1) _ c.before.before.before.before.layout_of.ensures))
-    (λ c. search rules)
-    (λ c. search rules)
-    (λ c. search rules)
-    -- the call of `noted_places`, at the same levels
-    (λ c κs. let pre = c.before.before.before.before.before.before.before.before.before.before.before.before.before.before.before.before.before.before.before.before.before.before.before.before.before.before.before.before.requires in (omega (arith, pre.0), (pre.1.0, pre.1.1, object_notes c.before.before.before.before.before.before.before.before.before.before.before.before.before.before.before.before.before.before.before.before.before.before.before.before.before.before.before.before.requires.1.2 _ _ _ (sym c.before.before.before.before.before.before.before.before.before.before.before.before.before.before.before.before.before.reading-by.ensures ∙ c.before.before.before.before.before.before.before.before.before.before.before.before.before.before.before.says.given.1) _ c.before.before.before.before.before.before.before.before.before.before.before.before.before.layout_of.ensures _ c.before.before.before.before.before.before.before.before.note-fields.auto.1.1.1.1.1.1.1.1.1.1.1.0 c.before.before.before.before.before.before.before.before.note-fields.auto.1.1.1.1.1.1.1.1.1.1.1.1.0 c.before.before.before.before.before.before.before.before.note-fields.ensures _ (area_same _ _ _ _ (left_container pre.1.2.beside _ _ _ (sym c.before.before.before.before.before.before.before.before.before.before.before.before.before.before.before.before.before.reading-by.ensures ∙ c.before.before.before.before.before.before.before.before.before.before.before.before.before.before.before.says.given.1)) _ c.before.before.before.before.before.before.before.before.before.before.before.before.before.layout_of.ensures))))
-    (λ c. search rules)
-    (λ c. search rules)
-    (λ c. search rules)
-    (λ c. λ columns stand. object_put c.before.before.before.before.before.before.before.before.before.before.before.before.before.before.before.before.before.before.before.before.before.before.before.before.before.before.before.before.before.before.before.before.before.before.before.requires.1.2 _ _ _ (sym c.before.before.before.before.before.before.before.before.before.before.before.before.before.before.before.before.before.before.before.before.before.before.before.before.reading-by.ensures ∙ c.before.before.before.before.before.before.before.before.before.before.before.before.before.before.before.before.before.before.before.before.before.before.says.given.1) _ c.before.before.before.before.before.before.before.before.before.before.before.before.before.before.before.before.before.before.before.before.layout_of.ensures _ c.before.before.before.before.before.before.before.before.before.before.before.before.before.before.before.note-fields.auto.1.1.1.1.1.1.1.1.1.1.1.0 c.before.before.before.before.before.before.before.before.before.before.before.before.before.before.before.note-fields.auto.1.1.1.1.1.1.1.1.1.1.1.1.0 c.before.before.before.before.before.before.before.before.before.before.before.before.before.before.before.note-fields.ensures columns stand _ (area_same _ _ _ _ (left_container c.before.before.before.before.before.before.before.before.before.before.before.before.before.before.before.before.before.before.before.before.before.before.before.before.before.before.before.before.before.before.before.before.before.before.before.requires.1.2.beside _ _ _ (sym c.before.before.before.before.before.before.before.before.before.before.before.before.before.before.before.before.before.before.before.before.before.before.before.before.reading-by.ensures ∙ c.before.before.before.before.before.before.before.before.before.before.before.before.before.before.before.before.before.before.before.before.before.before.says.given.1)) _ c.before.before.before.before.before.before.before.before.before.before.before.before.before.before.before.before.before.before.before.before.layout_of.ensures) c.before.before.before.before.before.before.noted-places.ensures)
+pub list_places-array-requires : goal.list_places-array-requires
+list_places-array-requires t c = let seen = c.loop-i.invariant in let over = c.loop-i-test.false in let same = seen.out_size in let fits = c.requires.1.within in
+    (c.requires.0, seen.room, list_lying c.requires.2 seen (omega arith), list_few c.requires.2 seen, omega arith)
 
-place-closed : {M : Type 1} (t : ℕ) → place-lts.Closed (place-claims t) (GivenAt μ-place place.Pre t) place.Post M
-place-closed t = place-lts.spec (place-claims t) (GivenAt μ-place place.Pre t) place.Post
-    (λ c κs. search rules)
-    (λ c. search rules)
-    (λ c κs. search rules)
-    (λ c. search rules)
-    (λ c. search (rules, one_long))
-    (λ c. search (rules, one_long))
-    (λ c. search rules)
-    (λ c κs. search (rules, alone_ready))
-    (λ c. search rules)
-    (λ c. search rules)
-    (λ c. search (rules, typed_long))
-    (λ c. search (rules, typed_long))
-    (λ c. search rules)
-    -- the call of `typed`, at the same levels
-    (λ c κs. let pre = c.before.before.before.before.before.before.before.before.before.before.before.before.before.before.before.before.requires in (omega (arith, pre.0), (pre.1.0, pre.1.1, search (rules, only_ready))))
-    (λ c. search rules)
-    (λ c. let long = both_long _ c.before.before.before.split.ensures c.before.parts.given.1 in search rules)
-    (λ c. let long = both_long _ c.before.before.before.split.ensures c.before.parts.given.1 in search rules)
-    (λ c. let long = both_long _ c.before.before.before.split.ensures c.before.parts.given.1 in search rules)
-    (λ c. let long = both_long _ c.before.before.before.split.ensures c.before.parts.given.1 in search rules)
-    (λ c. let long = both_long _ c.before.before.before.before.split.ensures c.before.before.parts.given.1 in search rules)
-    (λ c. let long = both_long _ c.before.before.before.before.split.ensures c.before.before.parts.given.1 in search rules)
-    (λ c. search rules)
-    -- the same, beside a leftover
-    (λ c κs. let pre = c.before.before.before.before.before.before.before.before.before.before.before.before.before.before.before.before.before.requires in (omega (arith, pre.0), (pre.1.0, pre.1.1, beside_ready pre.1.2 c.before.before.before.before.before.before.before.before.split.ensures c.before.before.before.before.before.before.parts.given.1)))
-    (λ c. search rules)
-    (λ c. search rules)
-    -- empty; a leftover alone; typed alone; both; not framed
-    (λ c. placed_empty _ _ _ _ _ _ c.before.before.before.before.before.before.split.ensures c.before.before.before.before.enum_told.given.1 c.before.before.null.ensures)
-    (λ c. search rules)
-    (λ c. placed_left _ _ _ _ _ _ c.before.before.before.before.before.before.before.split.ensures c.before.before.before.before.before.enum-told2.given.1 c.before.before.leftover.ensures)
-    (λ c. search rules)
-    (λ c. search rules)
-    (λ c. search rules)
-    (λ c. placed_typed _ _ _ _ _ _ c.before.before.before.before.before.before.before.before.before.before.before.before.before.before.split.ensures c.before.before.before.before.before.before.before.before.before.before.before.before.enum-told3.given.1 c.before.before.before.before.before.before.type_inv.ensures)
-    (λ c. search rules)
-    (λ c. search rules)
-    (λ c. search rules)
-    (λ c. placed_both _ _ _ _ _ _ c.before.before.before.before.before.before.before.before.before.before.before.before.before.before.before.split.ensures c.before.before.before.before.before.before.before.before.before.before.before.before.before.parts.given.1 c.before.before.before.before.before.before.typed2.ensures)
-    (λ c. λ under stands. absurd (place_framed c.before.before.before.before.before.before.before.before.before.before.before.requires.1.2.there c.before.before.split.ensures c.enum-told4.given.1))
+pub list_places-returns : goal.list_places-returns
+list_places-returns t c = let over = c.loop-i-test.false in list_put c.requires.2 c.loop-i.invariant (omega arith) c.array.ensures
 
-typed-closed : {M : Type 1} (t : ℕ) → typed-lts.Closed (typed-claims t) (GivenAt μ-typed typed.Pre t) typed.Post M
-typed-closed t = typed-lts.spec (typed-claims t) (GivenAt μ-typed typed.Pre t) typed.Post
-    (λ c κs. typed_kind c.before.before.before.before.before.before.before.before.before.requires.1.2.there)
-    (λ c. search rules)
-    (λ c. search rules)
-    (λ c κs. let pre = c.before.before.before.before.before.before.before.before.before.before.before.before.before.before.requires in let small = pre.1.2.enough.small in (pre.1.1, typed_code pre.1.2.there c.before.before.before.before.kind_at.ensures c.before.before.kind.given.1, typed_cell pre.1.2.there c.before.before.before.before.kind_at.ensures c.before.before.kind.given.1, omega arith))
-    (λ c. search rules)
-    (λ c. let level = typed_level c.before.before.before.before.before.before.before.before.before.before.before.before.requires.1.2.there in search rules)
-    (λ c. search rules)
-    -- the call of `list_places`, a level down
-    (λ c κs. let pre = c.before.before.before.before.before.before.before.before.before.before.before.before.before.before.before.requires in let level = typed_level pre.1.2.there in (omega (arith, pre.0), (pre.1.0, pre.1.1, elements_ready pre.1.2 c.before.before.before.before.before.kind_at.ensures c.before.before.before.enum-told2.given.1)))
-    (λ c. search rules)
-    (λ c κs. search (rules, typed_frame))
-    (λ c. let level = typed_level c.before.before.before.before.before.before.before.before.before.before.before.before.before.requires.1.2.there in search rules)
-    (λ c. search rules)
-    -- the call of `object_places`, a level down
-    (λ c κs. let pre = c.before.before.before.before.before.before.before.before.before.before.before.before.before.before.before.before.requires in let level = typed_level pre.1.2.there in (omega (arith, pre.0), (pre.1.0, pre.1.1, members_ready pre.1.2 c.before.before.before.before.before.before.kind_at.ensures c.before.before.before.before.enum-told3.given.1 _ c.before.before.before.frame-end.ensures)))
-    -- node `00`; a column; a list; an object
-    (λ c. λ under stands. absurd (typed_never c.before.before.before.before.before.before.before.before.before.before.before.before.requires.1.2.there c.before.before.kind_at.ensures c.enum_told.given.1))
-    (λ c. search rules)
-    (λ c. put_cell _ _ _ _ _ _ _ c.before.before.before.before.before.before.before.kind_at.ensures c.before.before.before.before.before.kind.given.1 c.before.before.cell.ensures)
-    (λ c. search rules)
-    (λ c. search rules)
-    (λ c. search rules)
-    (λ c. put_list _ _ _ _ _ _ _ c.before.before.before.before.before.before.before.before.before.before.before.before.kind_at.ensures c.before.before.before.before.before.before.before.before.before.before.enum-told2.given.1 c.before.before.before.before.before.before.list-places.ensures)
-    (λ c. search rules)
-    (λ c. search rules)
-    (λ c. search rules)
-    (λ c. put_fields _ _ _ _ _ _ _ c.before.before.before.before.before.before.before.before.before.before.before.before.before.kind_at.ensures c.before.before.before.before.before.before.before.before.before.before.before.enum-told3.given.1 _ c.before.before.before.before.before.before.before.before.before.before.frame-end.ensures c.before.before.before.before.before.before.object-places.ensures)
+pub member-returns-in_default : goal.member-returns-in_default
+member-returns-in_default t c = λ one ready. absurd (member_known c.if-field-eq0.true c.child_extent.ensures c.in_default.is one ready)
+
+pub member-overflow_add-to : goal.member-overflow_add-to
+member-overflow_add-to t c = let fits = member_in c.if-field-eq0.true c.child_extent.ensures c.in-Size.is c.requires.2 in search rules
+
+pub member-slice_bounds-leftover-end : goal.member-slice_bounds-leftover-end
+member-slice_bounds-leftover-end t c = let fits = member_in c.if-field-eq0.true c.child_extent.ensures c.in-Size.is c.requires.2 in search rules
+
+pub member-leftover-requires : goal.member-leftover-requires
+member-leftover-requires t c = (c.requires.0, c.requires.1, member_leftover c.if-field-eq0.true c.child_extent.ensures c.in-Size.is c.requires.2)
+
+pub member-returns-then-field-eq0 : goal.member-returns-then-field-eq0
+member-returns-then-field-eq0 t c = member_left c.if-field-eq0.true c.child_extent.ensures c.in-Size.is c.leftover.ensures
+
+pub member-place_frame-requires : goal.member-place_frame-requires
+member-place_frame-requires t c = member_framed c.if-field-eq0.false c.requires.2
+
+pub member-returns-in_default-place_frame : goal.member-returns-in_default-place_frame
+member-returns-in_default-place_frame t c = λ one ready. absurd (member_whole c.if-field-eq0.false c.place_frame.ensures c.in_default-place_frame.is one ready)
+
+pub member-overflow_add-inner : goal.member-overflow_add-inner
+member-overflow_add-inner t c = let fits = member_fits _ _ c.place_frame.ensures c.in-Ends.is in search rules
+
+pub member-field_node-node-requires : goal.member-field_node-node-requires
+member-field_node-node-requires t c = member_node c.if-field-eq0.false c.requires.2
+
+pub member-slice_bounds-place-count : goal.member-slice_bounds-place-count
+member-slice_bounds-place-count t c = let fits = member_fits _ _ c.place_frame.ensures c.in-Ends.is in search rules
+
+pub member-slice_bounds-place-start : goal.member-slice_bounds-place-start
+member-slice_bounds-place-start t c = let fits = member_fits _ _ c.place_frame.ensures c.in-Ends.is in search rules
+
+pub member-slice_bounds-place-end : goal.member-slice_bounds-place-end
+member-slice_bounds-place-end t c = let fits = member_fits _ _ c.place_frame.ensures c.in-Ends.is in search rules
+
+pub member-place-requires : goal.member-place-requires
+member-place-requires t c = (omega (arith, c.decreases), (c.requires.0, c.requires.1, member_place c.if-field-eq0.false c.place_frame.ensures c.in-Ends.is c.requires.2 _ c.field_node-node.ensures))
+
+pub member-returns : goal.member-returns
+member-returns t c = member_placed c.if-field-eq0.false c.place_frame.ensures c.in-Ends.is _ c.field_node-node.ensures c.place.ensures
+
+pub noted_places-loop-i-init : goal.noted_places-loop-i-init
+noted_places-loop-i-init t c = noted_start c.requires.1
+
+pub noted_places-spot-at-requires : goal.noted_places-spot-at-requires
+noted_places-spot-at-requires t c = let inside = noted_in c.requires.2 c.loop-i.invariant c.loop-i-test.true in omega arith
+
+pub noted_places-spot-field-requires : goal.noted_places-spot-field-requires
+noted_places-spot-field-requires t c = let inside = noted_in c.requires.2 c.loop-i.invariant c.loop-i-test.true in omega arith
+
+pub noted_places-member-one-requires : goal.noted_places-member-one-requires
+noted_places-member-one-requires t c = let seen = c.loop-i.invariant in (omega (arith, c.decreases), (c.requires.0, seen.room, noted_member c.requires.2 c.loop-i.invariant c.loop-i-test.true _ _ c.spot-at.ensures c.spot-field.ensures _ _ (simp (length-take, length-drop) (omega arith)) (simp (length-take, length-drop) (omega arith))))
+
+pub noted_places-returns-in_default : goal.noted_places-returns-in_default
+noted_places-returns-in_default t c = λ ready. noted_full ready c.loop-i.invariant c.loop-i-test.true _ _ c.spot-at.ensures c.spot-field.ensures _ _ (simp (length-take, length-drop) (omega arith)) (simp (length-take, length-drop) (omega arith)) c.member-one.ensures c.in_default.is _
+
+pub noted_places-loop-i-preserved : goal.noted_places-loop-i-preserved
+noted_places-loop-i-preserved t c = noted_next c.requires.2 c.loop-i.invariant c.loop-i-test.true _ _ c.spot-at.ensures c.spot-field.ensures _ _ (simp (length-take, length-drop) (omega arith)) (simp (length-take, length-drop) (omega arith)) c.member-one.ensures c.in-At.is _ refl c.member-one.new.places c.member-one.auto.places c.member-one.new.ids c.member-one.auto.ids
+
+pub noted_places-object-requires : goal.noted_places-object-requires
+noted_places-object-requires t c = let seen = c.loop-i.invariant in let over = c.loop-i-test.false in let same = seen.out_size in let fits = c.requires.1.within in
+    record {
+      readings = (c.requires.0, seen.room, noted_lying c.requires.2 seen (omega arith), noted_few c.requires.2 seen, omega arith);
+      count_in_bounds = (noted-ids_in c.requires.2 seen, noted_ranked c.requires.2 seen)
+    }
+
+pub noted_places-returns : goal.noted_places-returns
+noted_places-returns t c = λ ready. let over = c.loop-i-test.false in noted_put ready c.loop-i.invariant (omega arith) c.object.ensures
+
+pub object_places-bounds-left-0 : goal.object_places-bounds-left-0
+object_places-bounds-left-0 t c = search (rules, left_begins)
+
+pub object_places-returns-in_default : goal.object_places-returns-in_default
+object_places-returns-in_default t c = λ columns stand. let read = left_read c.requires.2.beside in absurd (c.in_default.not-ObjectHead _ _ _ (c.reading_by-says.ensures ∙ read.is))
+
+pub object_places-layout_of-l-requires : goal.object_places-layout_of-l-requires
+object_places-layout_of-l-requires t c = left_container c.requires.2.beside _ _ _ (sym c.reading_by-says.ensures ∙ c.in-ObjectHead.is)
+
+pub object_places-slice_bounds-note_fields-count : goal.object_places-slice_bounds-note_fields-count
+object_places-slice_bounds-note_fields-count t c = let inside = ids_in _ _ _ _ (left_container c.requires.2.beside _ _ _ (sym c.reading_by-says.ensures ∙ c.in-ObjectHead.is)) _ c.layout_of-l.ensures in search rules
+
+pub object_places-slice_bounds-note_fields-start : goal.object_places-slice_bounds-note_fields-start
+object_places-slice_bounds-note_fields-start t c = let inside = ids_in _ _ _ _ (left_container c.requires.2.beside _ _ _ (sym c.reading_by-says.ensures ∙ c.in-ObjectHead.is)) _ c.layout_of-l.ensures in search rules
+
+pub object_places-slice_bounds-note_fields-count-2 : goal.object_places-slice_bounds-note_fields-count-2
+object_places-slice_bounds-note_fields-count-2 t c = let inside = starts_in _ _ _ _ (left_container c.requires.2.beside _ _ _ (sym c.reading_by-says.ensures ∙ c.in-ObjectHead.is)) _ c.layout_of-l.ensures in search rules
+
+pub object_places-slice_bounds-note_fields-start-2 : goal.object_places-slice_bounds-note_fields-start-2
+object_places-slice_bounds-note_fields-start-2 t c = let inside = starts_in _ _ _ _ (left_container c.requires.2.beside _ _ _ (sym c.reading_by-says.ensures ∙ c.in-ObjectHead.is)) _ c.layout_of-l.ensures in search rules
+
+pub object_places-note_fields-noted-requires : goal.object_places-note_fields-noted-requires
+object_places-note_fields-noted-requires t c = record { some_members = (object_some c.requires.2 _ _ _ (sym c.reading_by-says.ensures ∙ c.in-ObjectHead.is) _ c.layout_of-l.ensures, object_run c.requires.2 _ _ _ (sym c.reading_by-says.ensures ∙ c.in-ObjectHead.is) _ c.layout_of-l.ensures); schema_len_bound = object_sizes c.requires.2 _ _ _ (sym c.reading_by-says.ensures ∙ c.in-ObjectHead.is) _ c.layout_of-l.ensures }
+
+pub object_places-noted_places-requires : goal.object_places-noted_places-requires
+object_places-noted_places-requires t c = (omega (arith, c.decreases), (c.requires.0, c.requires.1, object_notes c.requires.2 _ _ _ (sym c.reading_by-says.ensures ∙ c.in-ObjectHead.is) _ c.layout_of-l.ensures _ c.note_fields-noted.auto.places c.note_fields-noted.auto.ids c.note_fields-noted.ensures _ (area_same _ _ _ _ (left_container c.requires.2.beside _ _ _ (sym c.reading_by-says.ensures ∙ c.in-ObjectHead.is)) _ c.layout_of-l.ensures)))
+
+pub object_places-returns : goal.object_places-returns
+object_places-returns t c = λ columns stand. object_put c.requires.2 _ _ _ (sym c.reading_by-says.ensures ∙ c.in-ObjectHead.is) _ c.layout_of-l.ensures _ c.note_fields-noted.auto.places c.note_fields-noted.auto.ids c.note_fields-noted.ensures columns stand _ (area_same _ _ _ _ (left_container c.requires.2.beside _ _ _ (sym c.reading_by-says.ensures ∙ c.in-ObjectHead.is)) _ c.layout_of-l.ensures) c.noted_places.ensures
+
+pub place-slice_bounds-leftover-count : goal.place-slice_bounds-leftover-count
+place-slice_bounds-leftover-count t c = search (rules, one_long)
+
+pub place-slice_bounds-leftover-start : goal.place-slice_bounds-leftover-start
+place-slice_bounds-leftover-start t c = search (rules, one_long)
+
+pub place-leftover-requires : goal.place-leftover-requires
+place-leftover-requires t c = search (rules, alone_ready)
+
+pub place-slice_bounds-typed-count : goal.place-slice_bounds-typed-count
+place-slice_bounds-typed-count t c = search (rules, typed_long)
+
+pub place-slice_bounds-typed-start : goal.place-slice_bounds-typed-start
+place-slice_bounds-typed-start t c = search (rules, typed_long)
+
+pub place-typed-requires : goal.place-typed-requires
+place-typed-requires t c = (omega (arith, c.decreases), (c.requires.0, c.requires.1, search (rules, only_ready)))
+
+pub place-overflow_add-behind : goal.place-overflow_add-behind
+place-overflow_add-behind t c = let long = both_long _ c.split-parts.ensures c.in-Both.is in search rules
+
+pub place-slice_bounds-typed-count-in-Both : goal.place-slice_bounds-typed-count-in-Both
+place-slice_bounds-typed-count-in-Both t c = let long = both_long _ c.split-parts.ensures c.in-Both.is in search rules
+
+pub place-slice_bounds-typed-start-in-Both : goal.place-slice_bounds-typed-start-in-Both
+place-slice_bounds-typed-start-in-Both t c = let long = both_long _ c.split-parts.ensures c.in-Both.is in search rules
+
+pub place-slice_bounds-typed-end-in-Both : goal.place-slice_bounds-typed-end-in-Both
+place-slice_bounds-typed-end-in-Both t c = let long = both_long _ c.split-parts.ensures c.in-Both.is in search rules
+
+pub place-slice_bounds-typed-count-in-Both-2 : goal.place-slice_bounds-typed-count-in-Both-2
+place-slice_bounds-typed-count-in-Both-2 t c = let long = both_long _ c.split-parts.ensures c.in-Both.is in search rules
+
+pub place-slice_bounds-typed-start-in-Both-2 : goal.place-slice_bounds-typed-start-in-Both-2
+place-slice_bounds-typed-start-in-Both-2 t c = let long = both_long _ c.split-parts.ensures c.in-Both.is in search rules
+
+pub place-typed-requires-in-Both : goal.place-typed-requires-in-Both
+place-typed-requires-in-Both t c = (omega (arith, c.decreases), (c.requires.0, c.requires.1, beside_ready c.requires.2 c.split-parts.ensures c.in-Both.is))
+
+pub place-returns-in-Empty : goal.place-returns-in-Empty
+place-returns-in-Empty t c = placed_empty _ _ _ _ _ _ c.split-parts.ensures c.in-Empty.is c.null.ensures
+
+pub place-returns-in-Leftover : goal.place-returns-in-Leftover
+place-returns-in-Leftover t c = placed_left _ _ _ _ _ _ c.split-parts.ensures c.in-Leftover.is c.leftover.ensures
+
+pub place-returns-in-Typed : goal.place-returns-in-Typed
+place-returns-in-Typed t c = placed_typed _ _ _ _ _ _ c.split-parts.ensures c.in-Typed.is c.typed.ensures
+
+pub place-returns-in-Both : goal.place-returns-in-Both
+place-returns-in-Both t c = placed_both _ _ _ _ _ _ c.split-parts.ensures c.in-Both.is c.typed-in-Both.ensures
+
+pub place-returns-in-Unframed : goal.place-returns-in-Unframed
+place-returns-in-Unframed t c = λ under stands. absurd (place_framed c.requires.2.there c.split-parts.ensures c.in-Unframed.is)
+
+pub typed-kind_at-kind-requires : goal.typed-kind_at-kind-requires
+typed-kind_at-kind-requires t c = typed_kind c.requires.2.there
+
+pub typed-cell-requires : goal.typed-cell-requires
+typed-cell-requires t c = let small = c.requires.2.enough.small in (c.requires.1, typed_code c.requires.2.there c.kind_at-kind.ensures c.in-Column.is, typed_cell c.requires.2.there c.kind_at-kind.ensures c.in-Column.is, omega arith)
+
+pub typed-overflow_sub-levels : goal.typed-overflow_sub-levels
+typed-overflow_sub-levels t c = let level = typed_level c.requires.2.there in search rules
+
+pub typed-list_places-requires : goal.typed-list_places-requires
+typed-list_places-requires t c = let level = typed_level c.requires.2.there in (omega (arith, c.decreases), (c.requires.0, c.requires.1, elements_ready c.requires.2 c.kind_at-kind.ensures c.in-List.is))
+
+pub typed-frame_end-to-requires : goal.typed-frame_end-to-requires
+typed-frame_end-to-requires t c = search (rules, typed_frame)
+
+pub typed-overflow_sub-levels-in-Fields : goal.typed-overflow_sub-levels-in-Fields
+typed-overflow_sub-levels-in-Fields t c = let level = typed_level c.requires.2.there in search rules
+
+pub typed-object_places-requires : goal.typed-object_places-requires
+typed-object_places-requires t c = let level = typed_level c.requires.2.there in (omega (arith, c.decreases), (c.requires.0, c.requires.1, members_ready c.requires.2 c.kind_at-kind.ensures c.in-Fields.is _ c.frame_end-to.ensures))
+
+pub typed-returns-in-Leftover : goal.typed-returns-in-Leftover
+typed-returns-in-Leftover t c = λ under stands. absurd (typed_never c.requires.2.there c.kind_at-kind.ensures c.in-Leftover.is)
+
+pub typed-returns-in-Column : goal.typed-returns-in-Column
+typed-returns-in-Column t c = put_cell _ _ _ _ _ _ _ c.kind_at-kind.ensures c.in-Column.is c.cell.ensures
+
+pub typed-returns-in-List : goal.typed-returns-in-List
+typed-returns-in-List t c = put_list _ _ _ _ _ _ _ c.kind_at-kind.ensures c.in-List.is c.list_places.ensures
+
+pub typed-returns-in-Fields : goal.typed-returns-in-Fields
+typed-returns-in-Fields t c = put_fields _ _ _ _ _ _ _ c.kind_at-kind.ensures c.in-Fields.is _ c.frame_end-to.ensures c.object_places.ensures

@@ -1,163 +1,155 @@
--- A value under a node, a list's elements, an object's places: each is written in front of those behind it. A call takes a level, or
--- keeps it and goes on from an object to its fields, from a field to those behind it, and to a value under a node.
-use Prim.Native.Nat.{ℕ, ◌-◌}
+use Prim.Native.Nat.{◌-◌}
 use native.Mathlib.Omega.{arith}
 use borrow.Author.Rules.{rules}
-use Rattle.numbers.proofs.Cycle.{GivenAt}
 use mathlib.Core.Path.{refl, sym, ◌∙◌}
 use Rattle.putting.proofs.PutLaws.{told_length, told_room}
 use Rattle.cutting.proofs.FieldsLaws.{fields_none, first_run, first_in_table, first_framed, first_named, first_falls, here_run, next_ready, fields_full, put_missing, member_part-there, member_ready, put_member}
-use Rattle.cutting.proofs.ListLaws.{no_other, ListSeen, list_first, put-no_array, list_container, list_start, list_there, element_ready, list_full, list_next, list_put}
+use Rattle.cutting.proofs.ListLaws.{no_other, list_first, put-no_array, list_container, list_start, list_there, element_ready, list_full, list_next, list_put}
 use Rattle.cutting.proofs.NodeLaws.{node_kind, node_level, node_framed, node_headed, put_leftover, put_column, list_ready, put_list, object_ready, put_object}
 use Rattle.cutting.proofs.ObjectLaws.{object_first, put-no_object, object_container, other_tag, places_asked, typed_asked, left_asked, fields_ready, rest_ready, places_full, typed_full, left_full, object_put}
 use Rattle.cutting.proofs.MissingLaws.{some_fields, put_all_missing}
 use Rattle.cutting.proofs.cutter.+fields_list_place_object_place_place.Goals as goal
 
-abbrev list-place-Inv-loop : list-place-lts.invariant-loop
-list-place-Inv-loop levels readings ranks schema table node s notes₀ ids₀ out₀ end count offset members start₀ i₀ notes ids out start i =
-    ListSeen levels ranks schema table node s notes₀ ids₀ out₀ end members notes ids out start i
+pub fields-returns-then-from-to : goal.fields-returns-then-from-to
+fields-returns-then-from-to t c = search (rules, fields_none)
 
-abbrev list-place-μ-loop : list-place-lts.decreases-loop
-list-place-μ-loop levels readings ranks schema table node s notes₀ ids₀ out₀ end count offset members start₀ i₀ notes ids out start i =
-    i
+pub fields-missing-requires : goal.fields-missing-requires
+fields-missing-requires t c = (c.requires.1, c.requires.2, some_fields c.requires.3)
 
-fields-closed : {M : Type 1} (t : ℕ) → fields-lts.Closed (fields-claims t) (GivenAt μ-fields fields.Pre t) fields.Post M
-fields-closed t = fields-lts.spec (fields-claims t) (GivenAt μ-fields fields.Pre t) fields.Post
-    -- no field is left; no member is left
-    (λ c. search (rules, fields_none))
-    (λ c κs. let pre = c.before.before.before.before.before.before.before.before.before.before.before.before.requires in (pre.1.1, pre.1.2, some_fields pre.1.3))
-    (λ c. search rules)
-    (λ c. λ ready. put_all_missing ready c.before.before.before.before.if2.true c.before.before.missing.ensures)
-    (λ c κs. search (rules, first_run, first_in_table))
-    (λ c κs. search (rules, first_framed))
-    -- the call of `fields` on those behind the first, at the same levels: they are nearer the end
-    (λ c κs. let pre = c.before.before.before.before.before.before.before.before.before.before.before.before.before.before.before.before.requires in let falls = first_falls pre.1.3 c.before.before.before.before.before.before.before.if1.false c.before.before.before.frame-end.ensures in (omega (arith, pre.0), (pre.1.0, pre.1.1, pre.1.2, (next_ready pre.1.3 c.before.before.before.before.before.before.before.if1.false c.before.before.before.before.member-from.ensures c.before.before.before.frame-end.ensures refl refl))))
-    (λ c. search rules)
-    (λ c. search rules)
-    (λ c. search rules)
-    (λ c. search rules)
-    (λ c. search rules)
-    -- those behind it have no room
-    (λ c. λ ready. fields_full ready c.before.before.before.before.before.before.before.before.before.before.before.before.before.before.before.before.if1.false c.before.before.before.before.before.before.before.before.before.before.before.before.before.member-from.ensures c.before.before.before.before.before.before.before.before.before.before.before.before.frame-end.ensures refl refl (c.before.before.before.before.before.before.before.before.fields.ensures (next_ready ready c.before.before.before.before.before.before.before.before.before.before.before.before.before.before.before.before.if1.false c.before.before.before.before.before.before.before.before.before.before.before.before.before.member-from.ensures c.before.before.before.before.before.before.before.before.before.before.before.before.frame-end.ensures refl refl)) c.enum_told.given.1)
-    (λ c κs. let pre = c.before.before.before.before.before.before.before.before.before.before.before.before.before.before.before.before.before.before.before.before.before.before.before.before.before.before.requires in (here_run pre.1.3 c.before.before.before.before.before.before.before.before.before.before.before.before.before.before.before.before.before.if1.false c.before.before.before.before.before.before.before.before.before.before.before.before.before.before.member-from.ensures, first_in_table pre.1.3 c.before.before.before.before.before.before.before.before.before.before.before.before.before.before.before.before.before.if1.false))
-    (λ c κs. first_named c.before.before.before.before.before.before.before.before.before.before.before.before.before.before.before.before.before.before.before.before.before.before.before.before.before.before.before.before.requires.1.3 c.before.before.before.before.before.before.before.before.before.before.before.before.before.before.before.before.before.before.before.if1.false)
-    (λ c κs. member_part-there c.before.before.before.before.before.before.before.before.before.before.before.before.before.before.before.before.before.before.before.before.before.before.before.before.before.before.before.before.before.requires.1.3 c.before.before.before.before.before.before.before.before.before.before.before.before.before.before.before.before.before.before.before.before.if1.false c.before.before.before.before.before.before.before.before.before.before.before.before.before.before.before.before.before.member-from.ensures (sym c.before.before.is_member.ensures ∙ c.before.if3.true))
-    -- the call of `place` on the member, at the same levels
-    (λ c κs. let pre = c.before.before.before.before.before.before.before.before.before.before.before.before.before.before.before.before.before.before.before.before.before.before.before.before.before.before.before.before.before.before.before.before.before.requires in let done = (c.before.before.before.before.before.before.before.before.before.before.before.before.before.before.before.before.fields.ensures (next_ready pre.1.3 c.before.before.before.before.before.before.before.before.before.before.before.before.before.before.before.before.before.before.before.before.before.before.before.before.if1.false c.before.before.before.before.before.before.before.before.before.before.before.before.before.before.before.before.before.before.before.before.before.member-from.ensures c.before.before.before.before.before.before.before.before.before.before.before.before.before.before.before.before.before.before.before.before.frame-end.ensures refl refl)) in (omega (arith, pre.0), (pre.1.0, told_room done pre.1.1 c.before.before.before.before.before.before.before.before.behind.given.1, (let same = told_length done pre.1.1.within c.before.before.before.before.before.before.before.before.behind.given.1 in omega (arith, pre.1.2)), (member_ready pre.1.3 c.before.before.before.before.before.before.before.before.before.before.before.before.before.before.before.before.before.before.before.before.before.before.before.before.if1.false c.before.before.before.before.before.before.before.before.before.before.before.before.before.before.before.before.before.before.before.before.before.member-from.ensures (sym c.before.before.before.before.before.before.is_member.ensures ∙ c.before.before.before.before.before.if3.true) c.before.before.before.before.field-node.ensures c.before.before.before.part_at.ensures (c.before.before.before.before.before.before.before.before.before.before.before.before.before.before.before.before.fields.auto.1.1.1.1.1.1.1.1.1.1.0) (c.before.before.before.before.before.before.before.before.before.before.before.before.before.before.before.before.fields.auto.1.1.1.1.1.1.1.1.1.1.1.0)))))
-    (λ c. search rules)
-    (λ c. search rules)
-    (λ c. search rules)
-    -- the member that has its name
-    (λ c. λ ready. put_member ready c.before.before.before.before.before.before.before.before.before.before.before.before.before.before.before.before.before.before.before.before.before.before.before.before.before.before.before.before.before.before.before.if1.false c.before.before.before.before.before.before.before.before.before.before.before.before.before.before.before.before.before.before.before.before.before.before.before.before.before.before.before.before.member-from.ensures (sym c.before.before.before.before.before.before.before.before.before.before.before.before.before.is_member.ensures ∙ c.before.before.before.before.before.before.before.before.before.before.before.before.if3.true) c.before.before.before.before.before.before.before.before.before.before.before.field-node.ensures c.before.before.before.before.before.before.before.before.before.before.part_at.ensures (c.before.before.before.before.before.before.before.before.before.before.before.before.before.before.before.before.before.before.before.before.before.before.before.fields.auto.1.1.1.1.1.1.1.1.1.1.0) (c.before.before.before.before.before.before.before.before.before.before.before.before.before.before.before.before.before.before.before.before.before.before.before.fields.auto.1.1.1.1.1.1.1.1.1.1.1.0) c.before.before.before.before.before.before.before.before.before.before.before.before.before.before.before.before.before.before.before.before.before.before.before.before.before.before.before.frame-end.ensures refl refl c.before.before.before.before.before.before.before.before.before.before.before.before.before.before.before.before.before.before.before.before.before.before.before.before.before.before.before.before.before.before.before.before.before.before.before.before.before.before.before.before.requires.1.1.within (c.before.before.before.before.before.before.before.before.before.before.before.before.before.before.before.before.before.before.before.before.before.before.before.fields.ensures (next_ready ready c.before.before.before.before.before.before.before.before.before.before.before.before.before.before.before.before.before.before.before.before.before.before.before.before.before.before.before.before.before.before.before.if1.false c.before.before.before.before.before.before.before.before.before.before.before.before.before.before.before.before.before.before.before.before.before.before.before.before.before.before.before.before.member-from.ensures c.before.before.before.before.before.before.before.before.before.before.before.before.before.before.before.before.before.before.before.before.before.before.before.before.before.before.before.frame-end.ensures refl refl)) c.before.before.before.before.before.before.before.before.before.before.before.before.before.before.before.behind.given.1 (c.before.before.before.before.before.before.place.ensures (member_ready ready c.before.before.before.before.before.before.before.before.before.before.before.before.before.before.before.before.before.before.before.before.before.before.before.before.before.before.before.before.before.before.before.if1.false c.before.before.before.before.before.before.before.before.before.before.before.before.before.before.before.before.before.before.before.before.before.before.before.before.before.before.before.before.member-from.ensures (sym c.before.before.before.before.before.before.before.before.before.before.before.before.before.is_member.ensures ∙ c.before.before.before.before.before.before.before.before.before.before.before.before.if3.true) c.before.before.before.before.before.before.before.before.before.before.before.field-node.ensures c.before.before.before.before.before.before.before.before.before.before.part_at.ensures (c.before.before.before.before.before.before.before.before.before.before.before.before.before.before.before.before.before.before.before.before.before.before.before.fields.auto.1.1.1.1.1.1.1.1.1.1.0) (c.before.before.before.before.before.before.before.before.before.before.before.before.before.before.before.before.before.before.before.before.before.before.before.fields.auto.1.1.1.1.1.1.1.1.1.1.1.0))))
-    (λ c κs. let pre = c.before.before.before.before.before.before.before.before.before.before.before.before.before.before.before.before.before.before.before.before.before.before.before.before.before.before.before.before.before.requires in let done = (c.before.before.before.before.before.before.before.before.before.before.before.before.fields.ensures (next_ready pre.1.3 c.before.before.before.before.before.before.before.before.before.before.before.before.before.before.before.before.before.before.before.before.if1.false c.before.before.before.before.before.before.before.before.before.before.before.before.before.before.before.before.before.member-from.ensures c.before.before.before.before.before.before.before.before.before.before.before.before.before.before.before.before.frame-end.ensures refl refl)) in (told_room done pre.1.1 c.before.before.before.before.behind.given.1, (let same = told_length done pre.1.1.within c.before.before.before.before.behind.given.1 in omega (arith, pre.1.2))))
-    (λ c. search rules)
-    (λ c. search rules)
-    (λ c. search rules)
-    -- no member has its name
-    (λ c. λ ready. put_missing ready c.before.before.before.before.before.before.before.before.before.before.before.before.before.before.before.before.before.before.before.before.before.before.before.if1.false c.before.before.before.before.before.before.before.before.before.before.before.before.before.before.before.before.before.before.before.before.member-from.ensures c.before.before.before.before.before.before.before.before.before.before.before.before.before.before.before.before.before.before.before.frame-end.ensures refl refl (sym c.before.before.before.before.before.is_member.ensures ∙ c.before.before.before.before.if3.false) c.before.before.before.before.before.before.before.before.before.before.before.before.before.before.before.before.before.before.before.before.before.before.before.before.before.before.before.before.before.before.before.before.requires.1.1.within (c.before.before.before.before.before.before.before.before.before.before.before.before.before.before.before.fields.ensures (next_ready ready c.before.before.before.before.before.before.before.before.before.before.before.before.before.before.before.before.before.before.before.before.before.before.before.if1.false c.before.before.before.before.before.before.before.before.before.before.before.before.before.before.before.before.before.before.before.before.member-from.ensures c.before.before.before.before.before.before.before.before.before.before.before.before.before.before.before.before.before.before.before.frame-end.ensures refl refl)) c.before.before.before.before.before.before.before.behind.given.1 c.before.before.empty.ensures)
+pub fields-returns-then-members-k : goal.fields-returns-then-members-k
+fields-returns-then-members-k t c = λ ready. put_all_missing ready c.if-members-k.true c.missing.ensures
 
-list-place-closed : {M : Type 1} (t : ℕ) → list-place-lts.Closed (list-place-claims t) (GivenAt μ-list-place list-place.Pre t) list-place.Post M
-list-place-closed t = list-place-lts.spec (list-place-claims t) (GivenAt μ-list-place list-place.Pre t) list-place.Post
-    list-place-Inv-loop
-    list-place-μ-loop
-    (λ c. let first = list_first c.before.before.before.before.before.before.before.before.before.requires.1.3 in search rules)
-    (λ c κs. search rules)
-    (λ c. search rules)
-    (λ c κs. search rules)
-    (λ c. search rules)
-    -- no array
-    (λ c. λ ready. put-no_array ready c.before.before.before.before.before.reading-by.ensures (λ counted width e. no_other (rw e at c.before.before.before.before.match.keys2)) c.before.before.place.ensures)
-    (λ c κs. list_container c.before.before.before.before.before.before.before.before.before.before.before.before.before.requires.1.3 c.before.before.before.reading-by.ensures c.before.says.given.1)
-    (λ c. list_start c.before.before.before.before.reading-by.ensures c.before.before.says.given.1 c.members-of.ensures c.before.before.before.before.before.before.before.before.before.before.before.before.before.before.requires.1.1)
-    (λ c. search rules)
-    (λ c κs. let pre = c.before.before.before.before.before.before.before.before.before.before.before.before.before.before.before.before.requires in let seen = c.before.loop.invariant in let most = seen.within in let left = c.loop-test.true in list_there pre.1.3 c.before.before.before.before.before.before.reading-by.ensures c.before.before.before.before.says.given.1 c.before.before.members-of.ensures (omega arith))
-    -- the call of `place` on an element, at the same levels
-    (λ c κs. let pre = c.before.before.before.before.before.before.before.before.before.before.before.before.before.before.before.before.before.before.before.before.requires in let seen = c.before.before.before.before.before.loop.invariant in let most = seen.within in let left = c.before.before.before.before.loop-test.true in (omega (arith, pre.0), (pre.1.0, seen.room, omega (arith, seen.out_size, pre.1.2), element_ready pre.1.3 c.before.before.before.before.before.before.before.before.before.before.reading-by.ensures c.before.before.before.before.before.before.before.before.says.given.1 c.before.before.before.before.before.before.members-of.ensures (omega arith) c.before.before.before.part_at.ensures seen.notes_size seen.ids_size)))
-    (λ c. search rules)
-    (λ c. search rules)
-    (λ c. search rules)
-    (λ c. search rules)
-    (λ c. search rules)
-    -- an element has no room
-    (λ c. let pre = c.before.before.before.before.before.before.before.before.before.before.before.before.before.before.before.before.before.before.before.before.before.before.before.before.before.before.before.before.before.requires in let seen = c.before.before.before.before.before.before.before.before.before.before.before.before.before.before.loop.invariant in let most = seen.within in let left = c.before.before.before.before.before.before.before.before.before.before.before.before.before.loop-test.true in λ ready. list_full c.before.before.before.before.before.before.before.before.before.before.before.before.before.before.before.before.before.before.before.reading-by.ensures c.before.before.before.before.before.before.before.before.before.before.before.before.before.before.before.before.before.says.given.1 c.before.before.before.before.before.before.before.before.before.before.before.before.before.before.before.members-of.ensures seen pre.1.1.within _ (omega arith) c.before.before.before.before.before.before.before.before.before.before.before.before.part_at.ensures c.before.before.before.before.before.before.before.before.place2.ensures ready c.enum_told.given.1)
-    (λ c. search rules)
-    -- one element more stands in front
-    (λ c. let pre = c.before.before.before.before.before.before.before.before.before.before.before.before.before.before.before.before.before.before.before.before.before.before.before.before.before.before.before.before.before.before.requires in let seen = c.before.before.before.before.before.before.before.before.before.before.before.before.before.before.before.loop.invariant in let most = seen.within in let left = c.before.before.before.before.before.before.before.before.before.before.before.before.before.before.loop-test.true in list_next c.before.before.before.before.before.before.before.before.before.before.before.before.before.before.before.before.before.before.before.before.reading-by.ensures c.before.before.before.before.before.before.before.before.before.before.before.before.before.before.before.before.before.before.says.given.1 c.before.before.before.before.before.before.before.before.before.before.before.before.before.before.before.before.members-of.ensures seen pre.1.1.within _ (omega arith) c.before.before.before.before.before.before.before.before.before.before.before.before.before.part_at.ensures c.before.before.before.before.before.before.before.before.before.place2.ensures pre.1.3 c.before.one.given.1 (c.before.before.before.before.before.before.before.before.before.place2.auto.1.1.1.1.1.1.1.0) (c.before.before.before.before.before.before.before.before.before.place2.auto.1.1.1.1.1.1.1.1.0))
-    (λ c κs. let pre = c.before.before.before.before.before.before.before.before.before.before.before.before.before.before.before.before.before.requires in let seen = c.before.before.loop.invariant in (seen.room, seen.below, omega (arith, seen.out_size, pre.1.1.within), omega (arith, seen.out_size, pre.1.2), omega arith))
-    (λ c. search rules)
-    (λ c. search rules)
-    (λ c. search rules)
-    -- the heads in front of the elements
-    (λ c. let pre = c.before.before.before.before.before.before.before.before.before.before.before.before.before.before.before.before.before.before.before.before.requires in let seen = c.before.before.before.before.before.loop.invariant in let over = c.before.before.before.before.loop-test.false in λ ready. list_put c.before.before.before.before.before.before.before.before.before.before.reading-by.ensures c.before.before.before.before.before.before.before.before.says.given.1 c.before.before.before.before.before.before.members-of.ensures seen pre.1.1.within (omega arith) c.before.before.enclosed.ensures ready)
+pub fields-member_from-here-requires : goal.fields-member_from-here-requires
+fields-member_from-here-requires t c = search (rules, first_run, first_in_table)
 
-object-place-closed : {M : Type 1} (t : ℕ) → object-place-lts.Closed (object-place-claims t) (GivenAt μ-object-place object-place.Pre t) object-place.Post M
-object-place-closed t = object-place-lts.spec (object-place-claims t) (GivenAt μ-object-place object-place.Pre t) object-place.Post
-    (λ c. let first = object_first c.before.before.before.before.before.before.before.before.before.requires.1.3 in search rules)
-    (λ c κs. search rules)
-    (λ c. search rules)
-    (λ c κs. search rules)
-    (λ c. search rules)
-    -- no object
-    (λ c. λ ready. put-no_object ready c.before.before.before.before.before.reading-by.ensures (λ counted id width e. other_tag (rw e at c.before.before.before.before.match.keys2)) c.before.before.place.ensures)
-    (λ c κs. object_container c.before.before.before.before.before.before.before.before.before.before.before.before.before.requires.1.3 c.before.before.before.reading-by.ensures c.before.says.given.1)
-    -- the call of `fields`, at the same levels
-    (λ c κs. let pre = c.before.before.before.before.before.before.before.before.before.before.before.before.before.before.before.before.before.requires in let within = pre.1.3.stand.within in let short = pre.1.3.ground.schema_short in (omega (arith, pre.0), (pre.1.0, pre.1.1, pre.1.2, fields_ready pre.1.3 c.before.before.before.before.before.before.before.reading-by.ensures c.before.before.before.before.before.says.given.1 c.before.before.before.members-of.ensures)))
-    (λ c. search rules)
-    (λ c. search rules)
-    (λ c. search rules)
-    (λ c. search rules)
-    (λ c. search rules)
-    -- the places, their head, what is left over: one has no room
-    (λ c. λ ready. places_full ready c.before.before.before.before.before.before.before.before.before.before.before.before.before.before.before.before.reading-by.ensures c.before.before.before.before.before.before.before.before.before.before.before.before.before.before.says.given.1 c.before.before.before.before.before.before.before.before.before.before.before.before.members-of.ensures refl refl (c.before.before.before.before.before.before.before.before.fields.ensures (fields_ready ready c.before.before.before.before.before.before.before.before.before.before.before.before.before.before.before.before.reading-by.ensures c.before.before.before.before.before.before.before.before.before.before.before.before.before.before.says.given.1 c.before.before.before.before.before.before.before.before.before.before.before.before.members-of.ensures)) c.enum_told.given.1)
-    (λ c κs. places_asked c.before.before.before.before.before.before.before.before.before.before.before.before.before.before.before.before.before.before.before.before.before.before.before.before.before.before.before.before.requires.1.3 c.before.before.before.before.before.before.before.before.before.before.before.before.before.before.before.before.before.before.reading-by.ensures c.before.before.before.before.before.before.before.before.before.before.before.before.before.before.before.before.says.given.1 c.before.before.before.before.before.before.before.before.before.before.before.before.before.before.members-of.ensures refl refl c.before.before.before.before.before.before.before.before.before.before.before.before.before.before.before.before.before.before.before.before.before.before.before.before.before.before.before.before.requires.1.1 c.before.before.before.before.before.before.before.before.before.before.before.before.before.before.before.before.before.before.before.before.before.before.before.before.before.before.before.before.requires.1.2 (c.before.before.before.before.before.before.before.before.before.before.fields.ensures (fields_ready c.before.before.before.before.before.before.before.before.before.before.before.before.before.before.before.before.before.before.before.before.before.before.before.before.before.before.before.before.requires.1.3 c.before.before.before.before.before.before.before.before.before.before.before.before.before.before.before.before.before.before.reading-by.ensures c.before.before.before.before.before.before.before.before.before.before.before.before.before.before.before.before.says.given.1 c.before.before.before.before.before.before.before.before.before.before.before.before.before.before.members-of.ensures)) c.before.before.inner.given.1)
-    (λ c. search rules)
-    (λ c. search rules)
-    (λ c. search rules)
-    (λ c. search rules)
-    (λ c. search rules)
-    (λ c. λ ready. typed_full ready c.before.before.before.before.before.before.before.before.before.before.before.before.before.before.before.before.before.before.before.before.before.before.before.reading-by.ensures c.before.before.before.before.before.before.before.before.before.before.before.before.before.before.before.before.before.before.before.before.before.says.given.1 c.before.before.before.before.before.before.before.before.before.before.before.before.before.before.before.before.before.before.before.members-of.ensures refl refl c.before.before.before.before.before.before.before.before.before.before.before.before.before.before.before.before.before.before.before.before.before.before.before.before.before.before.before.before.before.before.before.before.before.requires.1.1.within (c.before.before.before.before.before.before.before.before.before.before.before.before.before.before.before.fields.ensures (fields_ready ready c.before.before.before.before.before.before.before.before.before.before.before.before.before.before.before.before.before.before.before.before.before.before.before.reading-by.ensures c.before.before.before.before.before.before.before.before.before.before.before.before.before.before.before.before.before.before.before.before.before.says.given.1 c.before.before.before.before.before.before.before.before.before.before.before.before.before.before.before.before.before.before.before.members-of.ensures)) c.before.before.before.before.before.before.before.inner.given.1 c.before.before.before.before.head.ensures c.enum-told2.given.1)
-    (λ c κs. let pre = c.before.before.before.before.before.before.before.before.before.before.before.before.before.before.before.before.before.before.before.before.before.before.before.before.before.before.before.before.before.before.before.before.before.before.before.before.before.requires in let asked = typed_asked pre.1.3 c.before.before.before.before.before.before.before.before.before.before.before.before.before.before.before.before.before.before.before.before.before.before.before.before.before.before.before.reading-by.ensures c.before.before.before.before.before.before.before.before.before.before.before.before.before.before.before.before.before.before.before.before.before.before.before.before.before.says.given.1 c.before.before.before.before.before.before.before.before.before.before.before.before.before.before.before.before.before.before.before.before.before.before.before.members-of.ensures refl refl pre.1.1 pre.1.2 (c.before.before.before.before.before.before.before.before.before.before.before.before.before.before.before.before.before.before.before.fields.ensures (fields_ready pre.1.3 c.before.before.before.before.before.before.before.before.before.before.before.before.before.before.before.before.before.before.before.before.before.before.before.before.before.before.before.reading-by.ensures c.before.before.before.before.before.before.before.before.before.before.before.before.before.before.before.before.before.before.before.before.before.before.before.before.before.says.given.1 c.before.before.before.before.before.before.before.before.before.before.before.before.before.before.before.before.before.before.before.before.before.before.before.members-of.ensures)) c.before.before.before.before.before.before.before.before.before.before.before.inner.given.1 c.before.before.before.before.before.before.before.before.head.ensures c.before.before.before.before.type_inv.given.1 in (pre.1.0, asked.0, asked.1, rest_ready pre.1.3 c.before.before.before.before.before.before.before.before.before.before.before.before.before.before.before.before.before.before.before.before.before.before.before.before.before.before.before.reading-by.ensures c.before.before.before.before.before.before.before.before.before.before.before.before.before.before.before.before.before.before.before.before.before.before.before.before.before.says.given.1 c.before.before.before.before.before.before.before.before.before.before.before.before.before.before.before.before.before.before.before.before.before.before.before.members-of.ensures (c.before.before.before.before.before.before.before.before.before.before.before.before.before.before.before.before.before.before.before.fields.auto.1.1.1.1.1.1.1.1.1.1.0) (c.before.before.before.before.before.before.before.before.before.before.before.before.before.before.before.before.before.before.before.fields.auto.1.1.1.1.1.1.1.1.1.1.1.0)))
-    (λ c. search rules)
-    (λ c. search rules)
-    (λ c. search rules)
-    (λ c. search rules)
-    (λ c. search rules)
-    (λ c. λ ready. left_full ready c.before.before.before.before.before.before.before.before.before.before.before.before.before.before.before.before.before.before.before.before.before.before.before.before.before.before.before.before.before.before.before.before.before.before.before.before.reading-by.ensures c.before.before.before.before.before.before.before.before.before.before.before.before.before.before.before.before.before.before.before.before.before.before.before.before.before.before.before.before.before.before.before.before.before.before.says.given.1 c.before.before.before.before.before.before.before.before.before.before.before.before.before.before.before.before.before.before.before.before.before.before.before.before.before.before.before.before.before.before.before.before.members-of.ensures (c.before.before.before.before.before.before.before.before.before.before.before.before.before.before.before.before.before.before.before.before.before.before.before.before.before.before.before.before.fields.auto.1.1.1.1.1.1.1.1.1.1.0) (c.before.before.before.before.before.before.before.before.before.before.before.before.before.before.before.before.before.before.before.before.before.before.before.before.before.before.before.before.fields.auto.1.1.1.1.1.1.1.1.1.1.1.0) c.before.before.before.before.before.before.before.before.before.before.before.before.before.before.before.before.before.before.before.before.before.before.before.before.before.before.before.before.before.before.before.before.before.before.before.before.before.before.before.before.before.before.before.before.before.before.requires.1.1.within (c.before.before.before.before.before.before.before.before.before.before.before.before.before.before.before.before.before.before.before.before.before.before.before.before.before.before.before.before.fields.ensures (fields_ready ready c.before.before.before.before.before.before.before.before.before.before.before.before.before.before.before.before.before.before.before.before.before.before.before.before.before.before.before.before.before.before.before.before.before.before.before.before.reading-by.ensures c.before.before.before.before.before.before.before.before.before.before.before.before.before.before.before.before.before.before.before.before.before.before.before.before.before.before.before.before.before.before.before.before.before.before.says.given.1 c.before.before.before.before.before.before.before.before.before.before.before.before.before.before.before.before.before.before.before.before.before.before.before.before.before.before.before.before.before.before.before.before.members-of.ensures)) c.before.before.before.before.before.before.before.before.before.before.before.before.before.before.before.before.before.before.before.before.inner.given.1 c.before.before.before.before.before.before.before.before.before.before.before.before.before.before.before.before.before.head.ensures c.before.before.before.before.before.before.before.before.before.before.before.before.before.type_inv.given.1 (c.before.before.before.before.before.before.before.before.rest.ensures (rest_ready ready c.before.before.before.before.before.before.before.before.before.before.before.before.before.before.before.before.before.before.before.before.before.before.before.before.before.before.before.before.before.before.before.before.before.before.before.before.reading-by.ensures c.before.before.before.before.before.before.before.before.before.before.before.before.before.before.before.before.before.before.before.before.before.before.before.before.before.before.before.before.before.before.before.before.before.before.says.given.1 c.before.before.before.before.before.before.before.before.before.before.before.before.before.before.before.before.before.before.before.before.before.before.before.before.before.before.before.before.before.before.before.before.members-of.ensures (c.before.before.before.before.before.before.before.before.before.before.before.before.before.before.before.before.before.before.before.before.before.before.before.before.before.before.before.before.fields.auto.1.1.1.1.1.1.1.1.1.1.0) (c.before.before.before.before.before.before.before.before.before.before.before.before.before.before.before.before.before.before.before.before.before.before.before.before.before.before.before.before.fields.auto.1.1.1.1.1.1.1.1.1.1.1.0))) c.enum-told3.given.1)
-    (λ c κs. left_asked c.before.before.before.before.before.before.before.before.before.before.before.before.before.before.before.before.before.before.before.before.before.before.before.before.before.before.before.before.before.before.before.before.before.before.before.before.before.before.before.before.before.before.before.before.before.before.before.before.requires.1.3 c.before.before.before.before.before.before.before.before.before.before.before.before.before.before.before.before.before.before.before.before.before.before.before.before.before.before.before.before.before.before.before.before.before.before.before.before.before.before.reading-by.ensures c.before.before.before.before.before.before.before.before.before.before.before.before.before.before.before.before.before.before.before.before.before.before.before.before.before.before.before.before.before.before.before.before.before.before.before.before.says.given.1 c.before.before.before.before.before.before.before.before.before.before.before.before.before.before.before.before.before.before.before.before.before.before.before.before.before.before.before.before.before.before.before.before.before.before.members-of.ensures (c.before.before.before.before.before.before.before.before.before.before.before.before.before.before.before.before.before.before.before.before.before.before.before.before.before.before.before.before.before.before.fields.auto.1.1.1.1.1.1.1.1.1.1.0) (c.before.before.before.before.before.before.before.before.before.before.before.before.before.before.before.before.before.before.before.before.before.before.before.before.before.before.before.before.before.before.fields.auto.1.1.1.1.1.1.1.1.1.1.1.0) c.before.before.before.before.before.before.before.before.before.before.before.before.before.before.before.before.before.before.before.before.before.before.before.before.before.before.before.before.before.before.before.before.before.before.before.before.before.before.before.before.before.before.before.before.before.before.before.before.requires.1.1 c.before.before.before.before.before.before.before.before.before.before.before.before.before.before.before.before.before.before.before.before.before.before.before.before.before.before.before.before.before.before.before.before.before.before.before.before.before.before.before.before.before.before.before.before.before.before.before.before.requires.1.2 (c.before.before.before.before.before.before.before.before.before.before.before.before.before.before.before.before.before.before.before.before.before.before.before.before.before.before.before.before.before.before.fields.ensures (fields_ready c.before.before.before.before.before.before.before.before.before.before.before.before.before.before.before.before.before.before.before.before.before.before.before.before.before.before.before.before.before.before.before.before.before.before.before.before.before.before.before.before.before.before.before.before.before.before.before.before.requires.1.3 c.before.before.before.before.before.before.before.before.before.before.before.before.before.before.before.before.before.before.before.before.before.before.before.before.before.before.before.before.before.before.before.before.before.before.before.before.before.before.reading-by.ensures c.before.before.before.before.before.before.before.before.before.before.before.before.before.before.before.before.before.before.before.before.before.before.before.before.before.before.before.before.before.before.before.before.before.before.before.before.says.given.1 c.before.before.before.before.before.before.before.before.before.before.before.before.before.before.before.before.before.before.before.before.before.before.before.before.before.before.before.before.before.before.before.before.before.before.members-of.ensures)) c.before.before.before.before.before.before.before.before.before.before.before.before.before.before.before.before.before.before.before.before.before.before.inner.given.1 c.before.before.before.before.before.before.before.before.before.before.before.before.before.before.before.before.before.before.before.head.ensures c.before.before.before.before.before.before.before.before.before.before.before.before.before.before.before.type_inv.given.1 (c.before.before.before.before.before.before.before.before.before.before.rest.ensures (rest_ready c.before.before.before.before.before.before.before.before.before.before.before.before.before.before.before.before.before.before.before.before.before.before.before.before.before.before.before.before.before.before.before.before.before.before.before.before.before.before.before.before.before.before.before.before.before.before.before.before.requires.1.3 c.before.before.before.before.before.before.before.before.before.before.before.before.before.before.before.before.before.before.before.before.before.before.before.before.before.before.before.before.before.before.before.before.before.before.before.before.before.before.reading-by.ensures c.before.before.before.before.before.before.before.before.before.before.before.before.before.before.before.before.before.before.before.before.before.before.before.before.before.before.before.before.before.before.before.before.before.before.before.before.says.given.1 c.before.before.before.before.before.before.before.before.before.before.before.before.before.before.before.before.before.before.before.before.before.before.before.before.before.before.before.before.before.before.before.before.before.before.members-of.ensures (c.before.before.before.before.before.before.before.before.before.before.before.before.before.before.before.before.before.before.before.before.before.before.before.before.before.before.before.before.before.before.fields.auto.1.1.1.1.1.1.1.1.1.1.0) (c.before.before.before.before.before.before.before.before.before.before.before.before.before.before.before.before.before.before.before.before.before.before.before.before.before.before.before.before.before.before.fields.auto.1.1.1.1.1.1.1.1.1.1.1.0))) c.before.before.left.given.1)
-    (λ c. (c.before.before.before.before.before.before.before.before.before.before.before.before.before.rest.auto.1.1.1.1.1.1.1.1.0) ∙ (c.before.before.before.before.before.before.before.before.before.before.before.before.before.before.before.before.before.before.before.before.before.before.before.before.before.before.before.before.before.before.before.before.before.fields.auto.1.1.1.1.1.1.1.1.1.1.0))
-    (λ c. (c.before.before.before.before.before.before.before.before.before.before.before.before.before.rest.auto.1.1.1.1.1.1.1.1.1.0) ∙ (c.before.before.before.before.before.before.before.before.before.before.before.before.before.before.before.before.before.before.before.before.before.before.before.before.before.before.before.before.before.before.before.before.before.fields.auto.1.1.1.1.1.1.1.1.1.1.1.0))
-    (λ c. search rules)
-    -- all of it
-    (λ c. λ ready. object_put ready c.before.before.before.before.before.before.before.before.before.before.before.before.before.before.before.before.before.before.before.before.before.before.before.before.before.before.before.before.before.before.before.before.before.before.before.before.before.before.before.before.before.reading-by.ensures c.before.before.before.before.before.before.before.before.before.before.before.before.before.before.before.before.before.before.before.before.before.before.before.before.before.before.before.before.before.before.before.before.before.before.before.before.before.before.before.says.given.1 c.before.before.before.before.before.before.before.before.before.before.before.before.before.before.before.before.before.before.before.before.before.before.before.before.before.before.before.before.before.before.before.before.before.before.before.before.before.members-of.ensures (c.before.before.before.before.before.before.before.before.before.before.before.before.before.before.before.before.before.before.before.before.before.before.before.before.before.before.before.before.before.before.before.before.before.fields.auto.1.1.1.1.1.1.1.1.1.1.0) (c.before.before.before.before.before.before.before.before.before.before.before.before.before.before.before.before.before.before.before.before.before.before.before.before.before.before.before.before.before.before.before.before.before.fields.auto.1.1.1.1.1.1.1.1.1.1.1.0) c.before.before.before.before.before.before.before.before.before.before.before.before.before.before.before.before.before.before.before.before.before.before.before.before.before.before.before.before.before.before.before.before.before.before.before.before.before.before.before.before.before.before.before.before.before.before.before.before.before.before.before.requires.1.1.within (c.before.before.before.before.before.before.before.before.before.before.before.before.before.before.before.before.before.before.before.before.before.before.before.before.before.before.before.before.before.before.before.before.before.fields.ensures (fields_ready ready c.before.before.before.before.before.before.before.before.before.before.before.before.before.before.before.before.before.before.before.before.before.before.before.before.before.before.before.before.before.before.before.before.before.before.before.before.before.before.before.before.before.reading-by.ensures c.before.before.before.before.before.before.before.before.before.before.before.before.before.before.before.before.before.before.before.before.before.before.before.before.before.before.before.before.before.before.before.before.before.before.before.before.before.before.before.says.given.1 c.before.before.before.before.before.before.before.before.before.before.before.before.before.before.before.before.before.before.before.before.before.before.before.before.before.before.before.before.before.before.before.before.before.before.before.before.before.members-of.ensures)) c.before.before.before.before.before.before.before.before.before.before.before.before.before.before.before.before.before.before.before.before.before.before.before.before.before.inner.given.1 c.before.before.before.before.before.before.before.before.before.before.before.before.before.before.before.before.before.before.before.before.before.before.head.ensures c.before.before.before.before.before.before.before.before.before.before.before.before.before.before.before.before.before.before.type_inv.given.1 (c.before.before.before.before.before.before.before.before.before.before.before.before.before.rest.ensures (rest_ready ready c.before.before.before.before.before.before.before.before.before.before.before.before.before.before.before.before.before.before.before.before.before.before.before.before.before.before.before.before.before.before.before.before.before.before.before.before.before.before.before.before.before.reading-by.ensures c.before.before.before.before.before.before.before.before.before.before.before.before.before.before.before.before.before.before.before.before.before.before.before.before.before.before.before.before.before.before.before.before.before.before.before.before.before.before.before.says.given.1 c.before.before.before.before.before.before.before.before.before.before.before.before.before.before.before.before.before.before.before.before.before.before.before.before.before.before.before.before.before.before.before.before.before.before.before.before.before.members-of.ensures (c.before.before.before.before.before.before.before.before.before.before.before.before.before.before.before.before.before.before.before.before.before.before.before.before.before.before.before.before.before.before.before.before.before.fields.auto.1.1.1.1.1.1.1.1.1.1.0) (c.before.before.before.before.before.before.before.before.before.before.before.before.before.before.before.before.before.before.before.before.before.before.before.before.before.before.before.before.before.before.before.before.before.fields.auto.1.1.1.1.1.1.1.1.1.1.1.0))) c.before.before.before.before.before.left.given.1 c.before.before.head2.ensures)
+pub fields-frame_end-next-requires : goal.fields-frame_end-next-requires
+fields-frame_end-next-requires t c = search (rules, first_framed)
 
-place-closed : {M : Type 1} (t : ℕ) → place-lts.Closed (place-claims t) (GivenAt μ-place place.Pre t) place.Post M
-place-closed t = place-lts.spec (place-claims t) (GivenAt μ-place place.Pre t) place.Post
-    (λ c κs. search (rules, node_kind))
-    (λ c. search rules)
-    (λ c κs. search rules)
-    (λ c. search rules)
-    (λ c κs. search (rules, node_headed))
-    (λ c. search rules)
-    (λ c. search (rules, node_level))
-    (λ c. search rules)
-    -- the call of `list_place`, a level down
-    (λ c κs. let pre = c.before.before.before.before.before.before.before.before.before.before.before.before.before.before.requires in let level = node_level pre.1.3 in (omega (arith, pre.0), (pre.1.0, pre.1.1, pre.1.2, list_ready pre.1.3 c.before.before.before.before.before.kind_at.ensures c.before.before.before.enum-told2.given.1)))
-    (λ c. search rules)
-    (λ c κs. search (rules, node_framed))
-    (λ c. search (rules, node_level))
-    (λ c. search rules)
-    -- the call of `object_place`, a level down
-    (λ c κs. let pre = c.before.before.before.before.before.before.before.before.before.before.before.before.before.before.before.requires in let level = node_level pre.1.3 in (omega (arith, pre.0), (pre.1.0, pre.1.1, pre.1.2, object_ready pre.1.3 c.before.before.before.before.before.before.kind_at.ensures c.before.before.before.before.enum-told3.given.1 c.before.before.before.frame-end.ensures)))
-    (λ c. search rules)
-    -- by the kind of the node
-    (λ c. search (rules, put_leftover))
-    (λ c. search rules)
-    (λ c. search (rules, put_column))
-    (λ c. search rules)
-    (λ c. search rules)
-    (λ c. search rules)
-    (λ c. λ ready. put_list ready c.before.before.before.before.before.before.before.before.before.before.before.before.kind_at.ensures c.before.before.before.before.before.before.before.before.before.before.enum-told2.given.1 (c.before.before.before.before.before.before.list-place.ensures (list_ready ready c.before.before.before.before.before.before.before.before.before.before.before.before.kind_at.ensures c.before.before.before.before.before.before.before.before.before.before.enum-told2.given.1)))
-    (λ c. search rules)
-    (λ c. search rules)
-    (λ c. search rules)
-    (λ c. λ ready. put_object ready c.before.before.before.before.before.before.before.before.before.before.before.before.before.kind_at.ensures c.before.before.before.before.before.before.before.before.before.before.before.enum-told3.given.1 c.before.before.before.before.before.before.before.before.before.before.frame-end.ensures (c.before.before.before.before.before.before.object-place.ensures (object_ready ready c.before.before.before.before.before.before.before.before.before.before.before.before.before.kind_at.ensures c.before.before.before.before.before.before.before.before.before.before.before.enum-told3.given.1 c.before.before.before.before.before.before.before.before.before.before.frame-end.ensures)))
+pub fields-fields-behind-requires : goal.fields-fields-behind-requires
+fields-fields-behind-requires t c = let falls = first_falls c.requires.3 c.if-from-to.false c.frame_end-next.ensures in (omega (arith, c.decreases), (c.requires.0, c.requires.1, c.requires.2, (next_ready c.requires.3 c.if-from-to.false c.member_from-here.ensures c.frame_end-next.ensures refl refl)))
+
+pub fields-returns-in_default : goal.fields-returns-in_default
+fields-returns-in_default t c = λ ready. fields_full ready c.if-from-to.false c.member_from-here.ensures c.frame_end-next.ensures refl refl (c.fields-behind.ensures (next_ready ready c.if-from-to.false c.member_from-here.ensures c.frame_end-next.ensures refl refl)) c.in_default.is
+
+pub fields-is_member-requires : goal.fields-is_member-requires
+fields-is_member-requires t c = (here_run c.requires.3 c.if-from-to.false c.member_from-here.ensures, first_in_table c.requires.3 c.if-from-to.false)
+
+pub fields-field_node-requires : goal.fields-field_node-requires
+fields-field_node-requires t c = first_named c.requires.3 c.if-from-to.false
+
+pub fields-part_at-requires : goal.fields-part_at-requires
+fields-part_at-requires t c = member_part-there c.requires.3 c.if-from-to.false c.member_from-here.ensures (sym c.is_member.ensures ∙ c.if-is_member.true)
+
+pub fields-place-requires : goal.fields-place-requires
+fields-place-requires t c = let done = (c.fields-behind.ensures (next_ready c.requires.3 c.if-from-to.false c.member_from-here.ensures c.frame_end-next.ensures refl refl)) in (omega (arith, c.decreases), (c.requires.0, told_room done c.requires.1 c.in-At.is, (let same = told_length done c.requires.1.within c.in-At.is in omega (arith, c.requires.2)), (member_ready c.requires.3 c.if-from-to.false c.member_from-here.ensures (sym c.is_member.ensures ∙ c.if-is_member.true) c.field_node.ensures c.part_at.ensures (c.fields-behind.auto.notes) (c.fields-behind.auto.ids))))
+
+pub fields-returns-then-is_member : goal.fields-returns-then-is_member
+fields-returns-then-is_member t c = λ ready. put_member ready c.if-from-to.false c.member_from-here.ensures (sym c.is_member.ensures ∙ c.if-is_member.true) c.field_node.ensures c.part_at.ensures (c.fields-behind.auto.notes) (c.fields-behind.auto.ids) c.frame_end-next.ensures refl refl c.requires.1.within (c.fields-behind.ensures (next_ready ready c.if-from-to.false c.member_from-here.ensures c.frame_end-next.ensures refl refl)) c.in-At.is (c.place.ensures (member_ready ready c.if-from-to.false c.member_from-here.ensures (sym c.is_member.ensures ∙ c.if-is_member.true) c.field_node.ensures c.part_at.ensures (c.fields-behind.auto.notes) (c.fields-behind.auto.ids)))
+
+pub fields-empty-requires : goal.fields-empty-requires
+fields-empty-requires t c = let done = (c.fields-behind.ensures (next_ready c.requires.3 c.if-from-to.false c.member_from-here.ensures c.frame_end-next.ensures refl refl)) in (told_room done c.requires.1 c.in-At.is, (let same = told_length done c.requires.1.within c.in-At.is in omega (arith, c.requires.2)))
+
+pub fields-returns : goal.fields-returns
+fields-returns t c = λ ready. put_missing ready c.if-from-to.false c.member_from-here.ensures c.frame_end-next.ensures refl refl (sym c.is_member.ensures ∙ c.if-is_member.false) c.requires.1.within (c.fields-behind.ensures (next_ready ready c.if-from-to.false c.member_from-here.ensures c.frame_end-next.ensures refl refl)) c.in-At.is c.empty.ensures
+
+pub list_place-bounds-s-0 : goal.list_place-bounds-s-0
+list_place-bounds-s-0 t c = let first = list_first c.requires.3 in search rules
+
+pub list_place-returns-in_default : goal.list_place-returns-in_default
+list_place-returns-in_default t c = λ ready. put-no_array ready c.reading_by-says.ensures c.in_default.not-ArrayHead c.place.ensures
+
+pub list_place-members_of-members-requires : goal.list_place-members_of-members-requires
+list_place-members_of-members-requires t c = list_container c.requires.3 c.reading_by-says.ensures c.in-ArrayHead.is
+
+pub list_place-loop-i-init : goal.list_place-loop-i-init
+list_place-loop-i-init t c = list_start c.reading_by-says.ensures c.in-ArrayHead.is c.members_of-members.ensures c.requires.1
+
+pub list_place-part_at-requires : goal.list_place-part_at-requires
+list_place-part_at-requires t c = let seen = c.loop-i.invariant in let most = seen.within in let left = c.loop-i-test.true in list_there c.requires.3 c.reading_by-says.ensures c.in-ArrayHead.is c.members_of-members.ensures (omega arith)
+
+pub list_place-place-one-requires : goal.list_place-place-one-requires
+list_place-place-one-requires t c = let seen = c.loop-i.invariant in let most = seen.within in let left = c.loop-i-test.true in (omega (arith, c.decreases), (c.requires.0, seen.room, omega (arith, seen.out_size, c.requires.2), element_ready c.requires.3 c.reading_by-says.ensures c.in-ArrayHead.is c.members_of-members.ensures (omega arith) c.part_at.ensures seen.notes_size seen.ids_size))
+
+pub list_place-returns-in_default-one : goal.list_place-returns-in_default-one
+list_place-returns-in_default-one t c = let seen = c.loop-i.invariant in let most = seen.within in let left = c.loop-i-test.true in λ ready. list_full c.reading_by-says.ensures c.in-ArrayHead.is c.members_of-members.ensures seen c.requires.1.within _ (omega arith) c.part_at.ensures c.place-one.ensures ready c.in_default-one.is
+
+pub list_place-loop-i-preserved : goal.list_place-loop-i-preserved
+list_place-loop-i-preserved t c = let seen = c.loop-i.invariant in let most = seen.within in let left = c.loop-i-test.true in list_next c.reading_by-says.ensures c.in-ArrayHead.is c.members_of-members.ensures seen c.requires.1.within _ (omega arith) c.part_at.ensures c.place-one.ensures c.requires.3 c.in-At.is (c.place-one.auto.notes) (c.place-one.auto.ids)
+
+pub list_place-enclosed-requires : goal.list_place-enclosed-requires
+list_place-enclosed-requires t c = let seen = c.loop-i.invariant in (seen.room, seen.below, omega (arith, seen.out_size, c.requires.1.within), omega (arith, seen.out_size, c.requires.2), omega arith)
+
+pub list_place-returns : goal.list_place-returns
+list_place-returns t c = let seen = c.loop-i.invariant in let over = c.loop-i-test.false in λ ready. list_put c.reading_by-says.ensures c.in-ArrayHead.is c.members_of-members.ensures seen c.requires.1.within (omega arith) c.enclosed.ensures ready
+
+pub object_place-bounds-s-0 : goal.object_place-bounds-s-0
+object_place-bounds-s-0 t c = let first = object_first c.requires.3 in search rules
+
+pub object_place-returns-in_default : goal.object_place-returns-in_default
+object_place-returns-in_default t c = λ ready. put-no_object ready c.reading_by-says.ensures c.in_default.not-ObjectHead c.place.ensures
+
+pub object_place-members_of-members-requires : goal.object_place-members_of-members-requires
+object_place-members_of-members-requires t c = object_container c.requires.3 c.reading_by-says.ensures c.in-ObjectHead.is
+
+pub object_place-fields-inner-requires : goal.object_place-fields-inner-requires
+object_place-fields-inner-requires t c = let within = c.requires.3.stand.within in let short = c.requires.3.ground.schema_short in (omega (arith, c.decreases), (c.requires.0, c.requires.1, c.requires.2, fields_ready c.requires.3 c.reading_by-says.ensures c.in-ObjectHead.is c.members_of-members.ensures))
+
+pub object_place-returns-in_default-inner : goal.object_place-returns-in_default-inner
+object_place-returns-in_default-inner t c = λ ready. places_full ready c.reading_by-says.ensures c.in-ObjectHead.is c.members_of-members.ensures refl refl (c.fields-inner.ensures (fields_ready ready c.reading_by-says.ensures c.in-ObjectHead.is c.members_of-members.ensures)) c.in_default-inner.is
+
+pub object_place-head-requires : goal.object_place-head-requires
+object_place-head-requires t c = places_asked c.requires.3 c.reading_by-says.ensures c.in-ObjectHead.is c.members_of-members.ensures refl refl c.requires.1 c.requires.2 (c.fields-inner.ensures (fields_ready c.requires.3 c.reading_by-says.ensures c.in-ObjectHead.is c.members_of-members.ensures)) c.in-At.is
+
+pub object_place-returns-in_default-head : goal.object_place-returns-in_default-head
+object_place-returns-in_default-head t c = λ ready. typed_full ready c.reading_by-says.ensures c.in-ObjectHead.is c.members_of-members.ensures refl refl c.requires.1.within (c.fields-inner.ensures (fields_ready ready c.reading_by-says.ensures c.in-ObjectHead.is c.members_of-members.ensures)) c.in-At.is c.head.ensures c.in_default-head.is
+
+pub object_place-rest-left-requires : goal.object_place-rest-left-requires
+object_place-rest-left-requires t c = let asked = typed_asked c.requires.3 c.reading_by-says.ensures c.in-ObjectHead.is c.members_of-members.ensures refl refl c.requires.1 c.requires.2 (c.fields-inner.ensures (fields_ready c.requires.3 c.reading_by-says.ensures c.in-ObjectHead.is c.members_of-members.ensures)) c.in-At.is c.head.ensures c.in-At-head.is in (c.requires.0, asked.0, asked.1, rest_ready c.requires.3 c.reading_by-says.ensures c.in-ObjectHead.is c.members_of-members.ensures (c.fields-inner.auto.notes) (c.fields-inner.auto.ids))
+
+pub object_place-returns-in_default-left : goal.object_place-returns-in_default-left
+object_place-returns-in_default-left t c = λ ready. left_full ready c.reading_by-says.ensures c.in-ObjectHead.is c.members_of-members.ensures (c.fields-inner.auto.notes) (c.fields-inner.auto.ids) c.requires.1.within (c.fields-inner.ensures (fields_ready ready c.reading_by-says.ensures c.in-ObjectHead.is c.members_of-members.ensures)) c.in-At.is c.head.ensures c.in-At-head.is (c.rest-left.ensures (rest_ready ready c.reading_by-says.ensures c.in-ObjectHead.is c.members_of-members.ensures (c.fields-inner.auto.notes) (c.fields-inner.auto.ids))) c.in_default-left.is
+
+pub object_place-head-requires-2 : goal.object_place-head-requires-2
+object_place-head-requires-2 t c = left_asked c.requires.3 c.reading_by-says.ensures c.in-ObjectHead.is c.members_of-members.ensures (c.fields-inner.auto.notes) (c.fields-inner.auto.ids) c.requires.1 c.requires.2 (c.fields-inner.ensures (fields_ready c.requires.3 c.reading_by-says.ensures c.in-ObjectHead.is c.members_of-members.ensures)) c.in-At.is c.head.ensures c.in-At-head.is (c.rest-left.ensures (rest_ready c.requires.3 c.reading_by-says.ensures c.in-ObjectHead.is c.members_of-members.ensures (c.fields-inner.auto.notes) (c.fields-inner.auto.ids))) c.in-At-left.is
+
+pub object_place-shape_of-notes : goal.object_place-shape_of-notes
+object_place-shape_of-notes t c = (c.rest-left.auto.notes) ∙ (c.fields-inner.auto.notes)
+
+pub object_place-shape_of-ids : goal.object_place-shape_of-ids
+object_place-shape_of-ids t c = (c.rest-left.auto.ids) ∙ (c.fields-inner.auto.ids)
+
+pub object_place-returns : goal.object_place-returns
+object_place-returns t c = λ ready. object_put ready c.reading_by-says.ensures c.in-ObjectHead.is c.members_of-members.ensures (c.fields-inner.auto.notes) (c.fields-inner.auto.ids) c.requires.1.within (c.fields-inner.ensures (fields_ready ready c.reading_by-says.ensures c.in-ObjectHead.is c.members_of-members.ensures)) c.in-At.is c.head.ensures c.in-At-head.is (c.rest-left.ensures (rest_ready ready c.reading_by-says.ensures c.in-ObjectHead.is c.members_of-members.ensures (c.fields-inner.auto.notes) (c.fields-inner.auto.ids))) c.in-At-left.is c.head-2.ensures
+
+pub place-kind_at-kind-requires : goal.place-kind_at-kind-requires
+place-kind_at-kind-requires t c = search (rules, node_kind)
+
+pub place-column-requires : goal.place-column-requires
+place-column-requires t c = search (rules, node_headed)
+
+pub place-overflow_sub-levels : goal.place-overflow_sub-levels
+place-overflow_sub-levels t c = search (rules, node_level)
+
+pub place-list_place-requires : goal.place-list_place-requires
+place-list_place-requires t c = let level = node_level c.requires.3 in (omega (arith, c.decreases), (c.requires.0, c.requires.1, c.requires.2, list_ready c.requires.3 c.kind_at-kind.ensures c.in-List.is))
+
+pub place-frame_end-to-requires : goal.place-frame_end-to-requires
+place-frame_end-to-requires t c = search (rules, node_framed)
+
+pub place-overflow_sub-levels-in-Fields : goal.place-overflow_sub-levels-in-Fields
+place-overflow_sub-levels-in-Fields t c = search (rules, node_level)
+
+pub place-object_place-requires : goal.place-object_place-requires
+place-object_place-requires t c = let level = node_level c.requires.3 in (omega (arith, c.decreases), (c.requires.0, c.requires.1, c.requires.2, object_ready c.requires.3 c.kind_at-kind.ensures c.in-Fields.is c.frame_end-to.ensures))
+
+pub place-returns-in-Leftover : goal.place-returns-in-Leftover
+place-returns-in-Leftover t c = search (rules, put_leftover)
+
+pub place-returns-in-Column : goal.place-returns-in-Column
+place-returns-in-Column t c = search (rules, put_column)
+
+pub place-returns-in-List : goal.place-returns-in-List
+place-returns-in-List t c = λ ready. put_list ready c.kind_at-kind.ensures c.in-List.is (c.list_place.ensures (list_ready ready c.kind_at-kind.ensures c.in-List.is))
+
+pub place-returns-in-Fields : goal.place-returns-in-Fields
+place-returns-in-Fields t c = λ ready. put_object ready c.kind_at-kind.ensures c.in-Fields.is c.frame_end-to.ensures (c.object_place.ensures (object_ready ready c.kind_at-kind.ensures c.in-Fields.is c.frame_end-to.ensures))
