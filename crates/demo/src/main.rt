@@ -9,10 +9,14 @@ mod reading;
 mod saying;
 mod showing;
 
-use libc::STDIN_FILENO;
+use std::io;
+use std::io::{BufWriter, Read, Write};
 
-fn main() {
-    let mut text = io::large_buffer();
-    let size = io::read_full(STDIN_FILENO, &mut text);
-    lots::answer_all(&text[..size]);
+fn main(rt: HostRuntime) -> io::Result<()> {
+    let alloc = rt.alloc();
+    let mut text = Vec::new(alloc);
+    rt.reader().read_to_end(&mut text)?;
+    let mut out = BufWriter::new(alloc, io::writer(&rt))?;
+    lots::answer_all(&mut out, text.as_slice())?;
+    out.flush()
 }

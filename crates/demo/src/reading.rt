@@ -1,22 +1,19 @@
 // Lines, words and hex digits.
 ghost use Rattle.std.specs.Prelude.{◌<◌, ◌≤◌, length};
-ghost use Rattle.io.specs.Counts.{IsPrefixLen};
 
 use order::Order;
 
 // The first place from `from` on where a mark stands; the end if there is none.
 pub fn upto(text: &[u8], from: usize, mark: u8) -> usize
     requires { from ≤ length text.now }
-    ensures { (from ≤ result) × IsPrefixLen result text.now }
+    ensures { (from ≤ result) × (result ≤ length text.now) }
 {
-    let mut at = from;
-    while at < text.len() {
+    for at in from..text.len() {
         if text[at] == mark {
             return at;
         }
-        at += 1;
     }
-    at
+    text.len()
 }
 
 // Where a line's word begins, the words being counted from 0; the end if it has none of that number.
@@ -24,14 +21,12 @@ fn start_of(line: &[u8], number: usize) -> usize
     ensures { result ≤ length line.now }
 {
     let mut at = 0;
-    let mut left = number;
-    while 0 < left {
+    for _ in 0..number {
         let end = upto(line, at, b' ');
         if end == line.len() {
             return end;
         }
         at = end + 1;
-        left -= 1;
     }
     at
 }
@@ -63,7 +58,7 @@ fn digit(c: u8) -> u8
 
 // Reads hex digits into a buffer, as far as it has room: how many bytes they made.
 fn read_hex(digits: &[u8], out: &mut [u8]) -> usize
-    ensures { IsPrefixLen result out.new }
+    ensures { result ≤ length out.new }
 {
     let mut n = 0;
     let mut at = 0;
@@ -80,7 +75,7 @@ fn read_hex(digits: &[u8], out: &mut [u8]) -> usize
 
 // Reads a line's word into a buffer: how many bytes it has.
 pub fn word(line: &[u8], number: usize, out: &mut [u8]) -> usize
-    ensures { IsPrefixLen result out.new }
+    ensures { result ≤ length out.new }
 {
     let start = start_of(line, number);
     let end = upto(line, start, b' ');
@@ -89,12 +84,12 @@ pub fn word(line: &[u8], number: usize, out: &mut [u8]) -> usize
 
 // A byte as the length of a part of a buffer; 0 if the byte is not there.
 pub fn room(bytes: &[u8], place: usize, out: &[u8]) -> usize
-    ensures { IsPrefixLen result out.now }
+    ensures { result ≤ length out.now }
 {
     if bytes.len() <= place {
         return 0;
     }
-    io::count(numbers::wide(bytes[place]) as isize, out)
+    numbers::wide(bytes[place]).min(out.len())
 }
 
 // The bytes from a place on, so many, as far as there are any.

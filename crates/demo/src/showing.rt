@@ -3,6 +3,8 @@ ghost use Rattle.std.specs.Prelude.{◌<◌, ◌≤◌, length};
 
 use crate::saying;
 use paper::CellAnswer;
+use std::io;
+use std::io::Write;
 
 // Where the frame at a place ends: behind its tag, its two-byte length and that many bytes, or where the bytes end.
 pub fn frame_end(s: &[u8], at: usize) -> usize
@@ -46,76 +48,77 @@ pub fn body(s: &[u8], at: usize) -> &[u8]
 
 // A tag stands at the front of some bytes.
 fn begins(s: &[u8], tag: u8) -> bool {
-    if s.len() == 0 {
+    if s.is_empty() {
         return false;
     }
     s[0] == tag
 }
 
 // One typed cell under a column's code.
-pub fn cell(code: u8, bytes: &[u8]) {
-    let answer = register::cell(code, bytes);
-    match answer {
-        CellAnswer::Read(read) => saying::cell(read),
-        CellAnswer::Refused(refusal) => saying::refused(refusal),
+pub fn cell(out: &mut impl Write, code: u8, bytes: &[u8]) -> io::Result<()> {
+    match register::cell(code, bytes) {
+        CellAnswer::Read(read) => saying::cell(out, read),
+        CellAnswer::Refused(refusal) => saying::refused(out, refusal),
     }
 }
 
 // What is typed under a node: a column's cell by its kind, else the bytes.
-fn typed(node: &[u8], bytes: &[u8]) {
-    saying::say(b", typed");
+fn typed(out: &mut impl Write, node: &[u8], bytes: &[u8]) -> io::Result<()> {
+    saying::say(out, b", typed")?;
     if node.len() == 4 {
-        return cell(node[3], bytes);
+        return cell(out, node[3], bytes);
     }
-    saying::bytes(bytes);
+    saying::bytes(out, bytes)
 }
 
 // A place under a node: missing, left over, typed, or both.
-fn place(node: &[u8], held: &[u8]) {
-    if held.len() == 0 {
-        return saying::say(b", missing");
+fn place(out: &mut impl Write, node: &[u8], held: &[u8]) -> io::Result<()> {
+    if held.is_empty() {
+        return saying::say(out, b", missing");
     }
     if begins(held, 0x42) {
-        return typed(node, body(held, 0));
+        return typed(out, node, body(held, 0));
     }
-    saying::say(b", left over");
-    saying::bytes(body(held, 0));
+    saying::say(out, b", left over")?;
+    saying::bytes(out, body(held, 0))?;
     let next = frame_end(held, 0);
     if next < held.len() {
-        typed(node, body(held, next));
+        typed(out, node, body(held, next))?;
     }
+    Ok(())
 }
 
 // The fields of an object's node, each by its name, and its place among the typed places.
-fn fields(columns: &[u8], places: &[u8]) {
+fn fields(out: &mut impl Write, columns: &[u8], places: &[u8]) -> io::Result<()> {
     let mut field = 0;
     let mut at = 0;
     while field < columns.len() {
         let column = body(columns, field);
         let node = frame_end(column, 0);
-        saying::say(b"\n    ");
-        saying::say(body(column, 0));
-        place(&column[node..], body(places, at));
+        saying::say(out, b"\n    ")?;
+        saying::say(out, body(column, 0))?;
+        place(out, &column[node..], body(places, at))?;
         field = next_frame(columns, field);
         at = frame_end(places, at);
     }
+    Ok(())
 }
 
 // What stands in a row: its metadata, and its outermost place; under an object's node what is left over, and field by field what is
 // typed.
-pub fn row(schema: &[u8], bytes: &[u8]) {
-    saying::say(b"\n    metadata");
-    saying::bytes(body(bytes, 0));
+pub fn row(out: &mut impl Write, schema: &[u8], bytes: &[u8]) -> io::Result<()> {
+    saying::say(out, b"\n    metadata")?;
+    saying::bytes(out, body(bytes, 0))?;
     let outermost = body(bytes, frame_end(bytes, 0));
     if !begins(schema, 0x30) {
-        saying::say(b"\n    the place");
-        return place(schema, outermost);
+        saying::say(out, b"\n    the place")?;
+        return place(out, schema, outermost);
     }
     if begins(outermost, 0x41) {
-        saying::say(b"\n    left over");
-        saying::bytes(body(outermost, 0));
+        saying::say(out, b"\n    left over")?;
+        saying::bytes(out, body(outermost, 0))?;
         let at = frame_end(outermost, 0);
-        return fields(body(schema, 0), body(outermost, at));
+        return fields(out, body(schema, 0), body(outermost, at));
     }
-    fields(body(schema, 0), body(outermost, 0));
+    fields(out, body(schema, 0), body(outermost, 0))
 }
