@@ -61,12 +61,13 @@ module _ (s : List ℕ) where
 -- Those in front of a field are nine bytes away.
 apart_front : {from to : ℕ} (front : List Spot) (spot : Spot) (more : List Spot) → Apart from to (front ++ (spot ∷ more)) → from ≤ spot.place
 apart_front [] spot more (spot_then first rest) = first
-apart_front (other ∷ front) spot more (spot_then first rest) = let far = apart_front front spot more rest in omega arith
+apart_front {from = from} {to = to} (other ∷ front) spot more (spot_then first rest) =
+    let far = apart_front {from = other.place + 9} front spot more rest in omega arith
 
 pub told_kept : (names : Dictionary) (table : List ℕ) (entry : ℕ) {from to : ℕ} (front : List Spot) (spot : Spot) (more : List Spot)
     → Apart from to (front ++ (spot ∷ more)) → AllTold names table front → AllTold names (set table (entry_place spot.place) entry) front
 unfolding AllTold
 told_kept names table entry [] spot more apart told = tt
-told_kept names table entry (other ∷ front) spot more (spot_then first rest) told =
+told_kept names table entry {from = from} {to = to} (other ∷ front) spot more (spot_then first rest) told =
     let far : other.place + 9 ≤ spot.place = apart_front front spot more rest in
-    (rw (entered_behind table spot.place entry other.place far) told.0, told_kept names table entry front spot more rest told.1)
+    (rw (entered_behind table spot.place entry other.place far) told.0, told_kept names table entry {from = other.place + 9} front spot more rest told.1)

@@ -1,3 +1,5 @@
+use mathlib.Core.Path.{ap}
+use mathlib.Core.Bool.{not}
 use Prim.Native.Nat.{◌-◌}
 use borrow.Author.Rules.{rules}
 use Rattle.dictionary.proofs.WalkLaws.{rise_none, second_there, rise_starts, rise_there, rise_ordered, rise_not, rise_on, rise_ends}
@@ -24,10 +26,10 @@ pub rises-requires : goal.rises-requires
 rises-requires c = rise_ordered _ _ _ _ c.requires _ _ _ _ c.loop-i.invariant c.loop-i-test.true _ c.read-next.ensures
 
 pub returns-then-not-rises : goal.returns-then-not-rises
-returns-then-not-rises c = rise_not _ _ _ _ c.requires _ _ _ _ c.loop-i.invariant c.loop-i-test.true _ c.read-next.ensures _ c.rises.ensures c.if-not-rises.true-raw
+returns-then-not-rises c = rise_not _ _ _ _ c.requires _ _ _ _ c.loop-i.invariant c.loop-i-test.true _ c.read-next.ensures _ c.rises.ensures (ap not c.if-not-rises.true)
 
 pub loop-i-preserved : goal.loop-i-preserved
-loop-i-preserved c = rise_on _ _ _ _ c.requires _ _ _ _ c.loop-i.invariant c.loop-i-test.true _ c.read-next.ensures _ c.rises.ensures c.if-not-rises.false-raw
+loop-i-preserved c = rise_on _ _ _ _ c.requires _ _ _ _ c.loop-i.invariant c.loop-i-test.true _ c.read-next.ensures _ c.rises.ensures (ap not c.if-not-rises.false)
 
 pub returns : goal.returns
 returns c = search (rules, rise_ends)

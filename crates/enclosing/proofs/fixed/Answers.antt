@@ -3,65 +3,17 @@ use borrow.Author.Rules.{rules}
 use Rattle.enclosing.proofs.ColumnLaws.{fixed_true, fixed_false, fixed_other, fixed_typed, fixed_left}
 use Rattle.enclosing.proofs.fixed.Goals as goal
 
--- ?? (λ c. search rules)
--- ?? search rules
+pub returns-then-kind-eq1 : goal.returns-then-kind-eq1
+returns-then-kind-eq1 c = search (rules, fixed_true)
 
--- ?? (λ c κs. search rules)
--- ?? search rules
+pub returns-then-kind-eq2 : goal.returns-then-kind-eq2
+returns-then-kind-eq2 c = search (rules, fixed_false)
 
--- ?? (λ c. search rules)
--- ?? search rules
+pub returns-then-code-eq1 : goal.returns-then-code-eq1
+returns-then-code-eq1 c = search (rules, fixed_other)
 
--- ?? (λ c. search (rules, fixed_true))
--- ?? search (rules, fixed_true)
+pub returns-then-wide-kind : goal.returns-then-wide-kind
+returns-then-wide-kind c = search (rules, fixed_typed)
 
--- ?? (λ c. search rules)
--- ?? search rules
-
--- ?? (λ c κs. search rules)
--- ?? search rules
-
--- ?? (λ c. search rules)
--- ?? search rules
-
--- ?? (λ c. search (rules, fixed_false))
--- ?? search (rules, fixed_false)
-
--- ?? (λ c κs. search rules)
--- ?? search rules
-
--- ?? (λ c. search rules)
--- ?? search rules
-
--- ?? (λ c. search (rules, fixed_other))
--- ?? search (rules, fixed_other)
-
--- ?? (λ c κs. search rules)
--- ?? search rules
-
--- ?? (λ c. search rules)
--- ?? search rules
-
--- ?? (λ c. search rules)
--- ?? search rules
-
--- ?? (λ c. search rules)
--- ?? search rules
-
--- ?? (λ c κs. search rules)
--- ?? search rules
-
--- ?? (λ c. search rules)
--- ?? search rules
-
--- ?? (λ c. search (rules, fixed_typed))
--- ?? search (rules, fixed_typed)
-
--- ?? (λ c κs. search rules)
--- ?? search rules
-
--- ?? (λ c. search rules)
--- ?? search rules
-
--- ?? (λ c. search (rules, fixed_left))
--- ?? search (rules, fixed_left)
+pub returns : goal.returns
+returns c = search (rules, fixed_left)

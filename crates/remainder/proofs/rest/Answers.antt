@@ -16,10 +16,10 @@ returns-in_default c = search (rules, rest_full)
 pub object-requires : goal.object-requires
 object-requires c = let pre = c.requires in
     let asks = rest_members pre.3 c.note_left-count.ensures c.if-count-eq0.false pre.1 c.copy_noted.ensures c.in-At.is in
-    ((pre.0, asks.0, asks.1, asks.2, asks.3), rest_ids pre.3 c.note_left-count.ensures)
+    record { readings = (pre.0, asks.0, asks.1, asks.2, asks.3); count_in_bounds = rest_ids pre.3 c.note_left-count.ensures }
 
 pub returns-in_default-object : goal.returns-in_default-object
-returns-in_default-object c = let pre = c.requires in
+returns-in_default-object c = λ ready. let pre = c.requires in
     rest_full_head ready c.note_left-count.ensures c.if-count-eq0.false pre.1 c.copy_noted.ensures c.in-At.is c.object.ensures
     c.in_default-object.is
 
@@ -29,6 +29,6 @@ head-requires c = let pre = c.requires in
     c.in-At-object.is pre.2
 
 pub returns : goal.returns
-returns c = let pre = c.requires in
+returns c = λ ready. let pre = c.requires in
     rest_put ready c.note_left-count.ensures c.if-count-eq0.false pre.1 c.copy_noted.ensures c.in-At.is c.object.ensures
     c.in-At-object.is c.head.ensures

@@ -1,26 +1,14 @@
 -- `clash`: only an object has names, those of its ids, which are merged with the node's.
-use mathlib.Core.Logic.{◌⊎◌, inl, inr}
-use mathlib.Core.Path.{◌≡◌}
-use Prim.Native.Nat.{ℕ}
-use native.Mathlib.Omega.{arith}
 use borrow.Author.Rules.{rules}
 use Rattle.paths.proofs.LawfulLaws.{lawful_some}
 use Rattle.clashes.proofs.ClashLaws.{no_names_lem, left_container, left_ids, merge_asks, clash_is}
 use Rattle.clashes.proofs.merging.clash.Goals as goal
 
--- an object's tag is 3, and none of the others
-other_tag : (◌≡◌ {A = ℕ} 3 0) ⊎ ((◌≡◌ {A = ℕ} 3 1) ⊎ ((◌≡◌ {A = ℕ} 3 2) ⊎ ((◌≡◌ {A = ℕ} 3 4) ⊎ (◌≡◌ {A = ℕ} 3 5)))) → ⊥
-other_tag (inl e) = omega arith
-other_tag (inr (inl e)) = omega arith
-other_tag (inr (inr (inl e))) = omega arith
-other_tag (inr (inr (inr (inl e)))) = omega arith
-other_tag (inr (inr (inr (inr e)))) = omega arith
-
 pub bounds-left-0 : goal.bounds-left-0
 bounds-left-0 c = search (rules, lawful_some)
 
 pub returns-in_default : goal.returns-in_default
-returns-in_default c = no_names_lem _ _ c.reading_by-says.ensures (λ k i w e. other_tag (rw e at c.in_default.keys2))
+returns-in_default c = no_names_lem _ _ c.reading_by-says.ensures c.in_default.not-ObjectHead
 
 pub layout_of-l-requires : goal.layout_of-l-requires
 layout_of-l-requires c = let pre = c.requires in

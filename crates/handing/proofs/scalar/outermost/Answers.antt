@@ -8,7 +8,8 @@ pub kind_at-kind-requires : goal.kind_at-kind-requires
 kind_at-kind-requires c = search (rules, alone_kind)
 
 pub column-requires : goal.column-requires
-column-requires c = search (rules, readings_all, alone_headed)
+unfolding readings
+column-requires c = (readings_all, c.requires.1, search rules, search (rules, alone_headed))
 
 pub returns-in-Leftover : goal.returns-in-Leftover
 returns-in-Leftover c = search (rules, alone_leftover)

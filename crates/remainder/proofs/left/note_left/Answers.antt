@@ -1,9 +1,10 @@
-use mathlib.Core.Logic.{⊎_elim}
-use mathlib.Core.Path.{◌∙◌}
+use mathlib.Core.Bool.{not}
+use mathlib.Core.Path.{ap, ◌∙◌}
 use Prim.Native.Nat.{◌-◌}
 use borrow.Author.Rules.{rules}
 use Rattle.remainder.proofs.NoteLaws.{note_start, note_done, note_id, note_fields, note_tabled, note_entry, note_number, note_place, note_ids, note_named, note_left_lem}
 use Rattle.remainder.proofs.left.note_left.Goals as goal
+use Rattle.remainder.proofs.left.note_left.Goals.{then-not-names_id, else-not-names_id}
 
 pub loop-k-init : goal.loop-k-init
 loop-k-init c = search (rules, note_start)
@@ -29,11 +30,9 @@ write-requires c = search (rules, note_ids)
 -- A member is noted, or it is named.
 pub loop-k-preserved : goal.loop-k-preserved
 loop-k-preserved c = let pre = c.requires in
-    ⊎_elim
-    (λ w.
-    note_left_lem c.loop-k.invariant c.loop-k-test.true c.id_at-id.ensures c.pass-place.ensures c.names_id.ensures pre
-    w.0.taken w.5 (w.6 ∙ w.2.ensures) w.7)
-    (λ w. search (rules, note_named)) c.if-not-names_id.branch
+    elim c.if-not-names_id.branch [ then-not-names_id w ↦ note_left_lem c.loop-k.invariant c.loop-k-test.true c.id_at-id.ensures c.pass-place.ensures c.names_id.ensures pre
+    (ap not w.if-not-names_id.true) w.notes-is (w.ids-is ∙ w.write.ensures) w.n-is
+    | else-not-names_id w ↦ search (rules, note_named) ]
 
 pub returns : goal.returns
 returns c = search (rules, note_done)

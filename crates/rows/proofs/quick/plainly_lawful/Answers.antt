@@ -1,81 +1,21 @@
 -- `plainly_lawful`: the two answers `true` by their laws; to an answer `false` nothing is asked.
-use mathlib.Core.Path.{sym, ◌∙◌}
-use borrow.Author.Rules.{rules}
-use Rattle.paper.proofs.WordLaws.{never}
-use Rattle.rows.proofs.QuickLaws.{code_there, code_good, empty_lawful, cell_lawful}
+use mathlib.Core.Path.{◌∙◌}
+use Rattle.rows.proofs.QuickLaws.{empty_lawful, code_there, code_good, cell_lawful}
 use Rattle.rows.proofs.quick.plainly_lawful.Goals as goal
 
--- ?? (λ c. λ e. empty_lawful _ _ _ c.if1.true)
--- ?? λ e. empty_lawful _ _ _ c.if1.true
+-- empty
+pub returns-then-end-eq0 : goal.returns-then-end-eq0
+returns-then-end-eq0 c = λ e. empty_lawful _ _ _ c.if-end-eq0.true
 
--- ?? (λ c. λ e. never (sym e))
--- ?? λ e. never (sym e)
+-- a column's code is there, and good
+pub bounds-schema-node-2 : goal.bounds-schema-node-2
+bounds-schema-node-2 c = code_there c.requires c.if-schema-node-ne16.false
 
--- ?? (λ c. search rules)
--- ?? search rules
+pub good-requires : goal.good-requires
+good-requires c = code_good c.requires c.if-schema-node-ne16.false
 
--- ?? (λ c. λ e. never (sym e))
--- ?? λ e. never (sym e)
-
--- ?? (λ c. search rules)
--- ?? search rules
-
--- ?? (λ c. λ e. never (sym e))
--- ?? λ e. never (sym e)
-
--- ?? (λ c κs. search rules)
--- ?? search rules
-
--- ?? (λ c. λ e. never (sym e))
--- ?? λ e. never (sym e)
-
--- ?? (λ c. search rules)
--- ?? search rules
-
--- ?? (λ c. code_there c.before.before.before.before.before.before.before.before.before.before.before.requires c.before.before.before.if4.false)
--- ?? code_there c.before.before.before.before.before.before.before.before.before.before.before.requires c.before.before.before.if4.false
-
--- ?? (λ c. search rules)
--- ?? search rules
-
--- ?? (λ c. search rules)
--- ?? search rules
-
--- ?? (λ c κs. code_good c.before.before.before.before.before.before.before.before.before.before.before.before.requires c.before.before.before.before.if4.false)
--- ?? code_good c.before.before.before.before.before.before.before.before.before.before.before.before.requires c.before.before.before.before.if4.false
-
--- ?? λ
--- ?? λ
-
--- ?? c.
--- ?? c.
-
--- ?? cell_lawful
--- ?? cell_lawful
-
--- ?? _
--- ?? _
-
--- ?? _
--- ?? _
-
--- ?? _
--- ?? _
-
--- ?? c.before.before.before.before.before.before.before.if3.false
--- ?? c.before.before.before.before.before.before.before.if3.false
-
--- ?? c.before.before.before.before.before.before.before.before.before.if2.false
--- ?? c.before.before.before.before.before.before.before.before.before.if2.false
-
--- ?? (c.before.before.before.if5.false ∙ c.before.before.before.before.read.ensures.0)
--- ?? (c.before.before.before.if5.false ∙ c.before.before.before.before.read.ensures.0)
-
--- ?? c.before.before.before.before.before.if4.false
--- ?? c.before.before.before.before.before.if4.false
-
--- ?? _
--- ?? _
-
--- ?? c.good2.ensures
--- ?? c.good2.ensures
+-- one cell, as good as its bytes are
+pub returns : goal.returns
+returns c =
+    cell_lawful _ _ _ c.if-body-ne66.false c.if-end-lt3.false (c.if-end-read.false ∙ c.read.ensures.0)
+    c.if-schema-node-ne16.false _ c.good.ensures

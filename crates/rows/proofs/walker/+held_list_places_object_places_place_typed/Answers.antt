@@ -171,7 +171,7 @@ pub place-returns-in-Leftover : goal.place-returns-in-Leftover
 place-returns-in-Leftover t c = λ under stands. c.alone.ensures under stands ∙ sym (place_left under _ _ _ (told_by _ c.split-parts.ensures c.in-Leftover.is))
 
 pub place-returns-in-Typed : goal.place-returns-in-Typed
-place-returns-in-Typed t c = λ under stands. c.type_inv.ensures under stands ∙ sym (place_typed under _ _ _ (told_by _ c.split-parts.ensures c.in-Typed.is))
+place-returns-in-Typed t c = λ under stands. c.typed.ensures under stands ∙ sym (place_typed under _ _ _ (told_by _ c.split-parts.ensures c.in-Typed.is))
 
 pub place-returns-in-Both : goal.place-returns-in-Both
 place-returns-in-Both t c = λ under stands. c.beside.ensures under stands ∙ rw (c.typed-right.ensures under stands) (sym (place_both under _ _ _ _ (told_by _ c.split-parts.ensures c.in-Both.is)))
@@ -206,7 +206,7 @@ pub typed-returns-in-Leftover : goal.typed-returns-in-Leftover
 typed-returns-in-Leftover t c = typed_none c.kind_at-kind.ensures _ _ c.in-Leftover.is
 
 pub typed-returns-in-Column : goal.typed-returns-in-Column
-typed-returns-in-Column t c = typed_cell c.kind_at-kind.ensures _ _ c.in-Column.is _ c.good2.ensures _ c.parsed.ensures
+typed-returns-in-Column t c = typed_cell c.kind_at-kind.ensures _ _ c.in-Column.is _ c.good.ensures _ c.parsed.ensures
 
 pub typed-returns-in-List : goal.typed-returns-in-List
 typed-returns-in-List t c = typed_elements c.kind_at-kind.ensures _ _ c.in-List.is _ c.list_places.ensures

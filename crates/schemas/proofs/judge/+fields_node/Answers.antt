@@ -1,3 +1,5 @@
+use mathlib.Core.Path.{ap}
+use mathlib.Core.Bool.{not}
 use Prim.Native.Nat.{◌-◌}
 use native.Mathlib.Omega.{arith}
 use borrow.Author.Rules.{rules}
@@ -12,26 +14,26 @@ pub fields-returns-then-not-field_within : goal.fields-returns-then-not-field_wi
 fields-returns-then-not-field_within t c = search (rules, fields_cut)
 
 pub fields-follows-requires : goal.fields-follows-requires
-fields-follows-requires t c = let here = field_passed c.loop-place.invariant c.requires.1 c.loop-place-test.true _ c.field_within.ensures c.if-not-field_within.false-raw in search rules
+fields-follows-requires t c = let here = field_passed c.loop-place.invariant c.requires.1 c.loop-place-test.true _ c.field_within.ensures (ap not c.if-not-field_within.false) in search rules
 
 pub fields-returns-then-not-follows : goal.fields-returns-then-not-follows
 fields-returns-then-not-follows t c = search (rules, fields_fall)
 
 pub fields-frame_end-next-requires : goal.fields-frame_end-next-requires
-fields-frame_end-next-requires t c = let here = field_passed c.loop-place.invariant c.requires.1 c.loop-place-test.true _ c.field_within.ensures c.if-not-field_within.false-raw in search rules
+fields-frame_end-next-requires t c = let here = field_passed c.loop-place.invariant c.requires.1 c.loop-place-test.true _ c.field_within.ensures (ap not c.if-not-field_within.false) in search rules
 
 pub fields-field_node-requires : goal.fields-field_node-requires
-fields-field_node-requires t c = let here = field_passed c.loop-place.invariant c.requires.1 c.loop-place-test.true _ c.field_within.ensures c.if-not-field_within.false-raw in search rules
+fields-field_node-requires t c = let here = field_passed c.loop-place.invariant c.requires.1 c.loop-place-test.true _ c.field_within.ensures (ap not c.if-not-field_within.false) in search rules
 
 pub fields-node-requires : goal.fields-node-requires
-fields-node-requires t c = let here = field_passed c.loop-place.invariant c.requires.1 c.loop-place-test.true _ c.field_within.ensures c.if-not-field_within.false-raw in
+fields-node-requires t c = let here = field_passed c.loop-place.invariant c.requires.1 c.loop-place-test.true _ c.field_within.ensures (ap not c.if-not-field_within.false) in
     (omega (arith, c.decreases), search rules)
 
 pub fields-returns-then-not-node : goal.fields-returns-then-not-node
 fields-returns-then-not-node t c = search (rules, fields_bad)
 
 pub fields-loop-place-preserved : goal.fields-loop-place-preserved
-fields-loop-place-preserved t c = fields_next c.loop-place.invariant c.requires.1 c.loop-place-test.true _ c.field_within.ensures c.if-not-field_within.false-raw _ c.follows.ensures c.if-not-follows.false-raw _ _ c.field_node.ensures c.frame_end-next.ensures _ c.node.ensures c.if-not-node.false-raw
+fields-loop-place-preserved t c = fields_next c.loop-place.invariant c.requires.1 c.loop-place-test.true _ c.field_within.ensures (ap not c.if-not-field_within.false) _ c.follows.ensures (ap not c.if-not-follows.false) _ _ c.field_node.ensures c.frame_end-next.ensures _ c.node.ensures (ap not c.if-not-node.false)
 
 pub fields-returns : goal.fields-returns
 fields-returns t c = search (rules, fields_done)

@@ -1,3 +1,5 @@
+use mathlib.Core.Path.{ap}
+use mathlib.Core.Bool.{not}
 use Prim.Native.Nat.{◌-◌}
 use native.Mathlib.Omega.{arith}
 use borrow.Author.Rules.{rules}
@@ -75,7 +77,7 @@ pub value-returns-then-not-object_lies : goal.value-returns-then-not-object_lies
 value-returns-then-not-object_lies t c = search (rules, value_object_not)
 
 pub value-insides-requires : goal.value-insides-requires
-value-insides-requires t c = let there = object_there (names_in c.args.metadata.now) _ _ _ _ _ c.object_lies.ensures c.if-not-object_lies.false-raw in
+value-insides-requires t c = let there = object_there (names_in c.args.metadata.now) _ _ _ _ _ c.object_lies.ensures (ap not c.if-not-object_lies.false) in
     (omega (arith, c.decreases), (c.requires.0, c.requires.1, search (rules, object_container), there))
 
 pub value-array_lies-requires : goal.value-array_lies-requires
