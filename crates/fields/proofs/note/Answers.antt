@@ -9,7 +9,7 @@ enter-requires c = let few = c.requires.3 in
 
 pub returns : goal.returns
 returns c = record {
-      looked = c.look_up-looked.result;
-      tells = rw c.field_name.ensures at c.look_up-looked.ensures;
-      entered = c.enter.ensures;
-    }
+  looked = c.look_up-looked.result;
+  tells = rw c.field_name.ensures at c.look_up-looked.ensures;
+  entered = c.enter.ensures;
+}

@@ -24,11 +24,11 @@ write_offsets-requires c = let f = fitting c.args.out.now c.requires c.total_of-
 
 pub write_names-requires : goal.write_names-requires
 write_names-requires c = let f = fitting c.args.out.now c.requires c.total_of-total.ensures c.offset_size-width.ensures in (
-      c.requires.0,
-      names_room f refl
-          c.write.ensures
-          c.write_offsets.ensures,
-    )
+  c.requires.0,
+  names_room f refl
+      c.write.ensures
+      c.write_offsets.ensures,
+)
 
 pub shape_of-out : goal.shape_of-out
 shape_of-out c = let f = fitting c.args.out.now c.requires c.total_of-total.ensures c.offset_size-width.ensures in

@@ -15,6 +15,6 @@ rank-count-requires c = let pre = c.requires in (pre.0.handed.in_order.opened, s
 pub with_room-requires : goal.with_room-requires
 unfolding readings
 with_room-requires c = let pre = c.requires in (
-      readings_all,
-      numbered pre.0 (λ i. omega (arith, c.shared_slice_known-2-1.given i)) c.place.ensures pre.4 pre.1 c.rank-count.ensures (search rules) (search rules),
-    )
+  readings_all,
+  numbered pre.0 (λ i. omega (arith, c.shared_slice_known-2-1.given i)) c.place.ensures pre.4 pre.1 c.rank-count.ensures (search rules) (search rules),
+)

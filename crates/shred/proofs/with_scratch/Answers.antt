@@ -20,12 +20,12 @@ slice_bounds-with_tables-end-in-Done-3 c = sym (length-take-le _ _ (value_inside
 
 pub with_tables-requires : goal.with_tables-requires
 with_tables-requires c = let scratch = c.requires.3 in (
-      normal_asked c.requires.0 c.normalise-answer.ensures (λ i. omega (arith, c.shared_slice_known-2-1.given i)) c.requires.2 c.in-Done.is c.requires.1,
-      rw length-take (omega (arith, scratch.ranks_room, c.normalise-answer.auto)),
-      rw length-take (omega (arith, scratch.notes_room, c.normalise-answer.auto)),
-      rw length-take (omega (arith, scratch.ids_room, c.normalise-answer.auto)),
-      scratch.room_short,
-    )
+  normal_asked c.requires.0 c.normalise-answer.ensures (λ i. omega (arith, c.shared_slice_known-2-1.given i)) c.requires.2 c.in-Done.is c.requires.1,
+  rw length-take (omega (arith, scratch.ranks_room, c.normalise-answer.auto)),
+  rw length-take (omega (arith, scratch.notes_room, c.normalise-answer.auto)),
+  rw length-take (omega (arith, scratch.ids_room, c.normalise-answer.auto)),
+  scratch.room_short,
+)
 
 pub returns-in-Done : goal.returns-in-Done
 returns-in-Done c = normal_answers c.requires.0 c.normalise-answer.ensures (λ i. omega (arith, c.shared_slice_known-2-1.given i)) c.requires.2 c.in-Done.is

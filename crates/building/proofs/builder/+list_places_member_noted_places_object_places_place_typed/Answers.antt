@@ -43,13 +43,13 @@ list_places-slice_bounds-place-end t c = let fits = list_fits c.requires.2 c.loo
 
 pub list_places-place-one-requires : goal.list_places-place-one-requires
 list_places-place-one-requires t c = let seen = c.loop-i.invariant in (
-      omega (arith, c.decreases),
-      (
-        c.requires.0,
-        seen.room,
-        list-place_ready c.requires.2 c.loop-i.invariant c.loop-i-test.true _ c.spot-at.ensures c.place_frame.ensures c.in-Ends.is c.note_elements-count.auto.places refl _ _ (simp (length-take, length-drop) (omega arith)) refl,
-      ),
-    )
+  omega (arith, c.decreases),
+  (
+    c.requires.0,
+    seen.room,
+    list-place_ready c.requires.2 c.loop-i.invariant c.loop-i-test.true _ c.spot-at.ensures c.place_frame.ensures c.in-Ends.is c.note_elements-count.auto.places refl _ _ (simp (length-take, length-drop) (omega arith)) refl,
+  ),
+)
 
 pub list_places-returns-in_default-one : goal.list_places-returns-in_default-one
 list_places-returns-in_default-one t c = list_full c.requires.2 c.loop-i.invariant c.loop-i-test.true _ c.spot-at.ensures c.place_frame.ensures c.in-Ends.is c.place-one.ensures c.in_default-one.is _
@@ -128,7 +128,7 @@ pub noted_places-object-requires : goal.noted_places-object-requires
 noted_places-object-requires t c = let seen = c.loop-i.invariant in let over = c.loop-i-test.false in let same = seen.out_size in let fits = c.requires.1.within in
     record {
       readings = (c.requires.0, seen.room, noted_lying c.requires.2 seen (omega arith), noted_few c.requires.2 seen, omega arith);
-      count_in_bounds = (noted-ids_in c.requires.2 seen, noted_ranked c.requires.2 seen)
+      count_in_bounds = (noted-ids_in c.requires.2 seen, noted_ranked c.requires.2 seen);
     }
 
 pub noted_places-returns : goal.noted_places-returns

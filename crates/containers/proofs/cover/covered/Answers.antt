@@ -17,7 +17,7 @@ covered_by-requires c = let pre = c.requires in
     record {
       readings = (own.0, own.1, own.2, own.3, own.4);
       area_len_bound = (own.5, omega arith, refl);
-      starts_value = covered_lie lent.area.now run lent.sum pre.starts_value (search rules)
+      starts_value = covered_lie lent.area.now run lent.sum pre.starts_value (search rules);
     }
 
 pub covered_by-requires-then-area-le16384 : goal.covered_by-requires-then-area-le16384
@@ -28,7 +28,7 @@ covered_by-requires-then-area-le16384 c = let pre = c.requires in
     record {
       readings = (own.0, own.1, own.2, own.3, own.4);
       area_len_bound = (own.5, omega arith, refl);
-      starts_value = covered_lie lent.area.now run lent.sum pre.starts_value (search rules)
+      starts_value = covered_lie lent.area.now run lent.sum pre.starts_value (search rules);
     }
 
 pub covered_by-requires-2 : goal.covered_by-requires-2
@@ -39,5 +39,5 @@ covered_by-requires-2 c = let pre = c.requires in
     record {
       readings = (own.0, own.1, own.2, own.3, own.4);
       area_len_bound = (own.5, omega arith, refl);
-      starts_value = covered_lie lent.area.now run lent.sum pre.starts_value (search rules)
+      starts_value = covered_lie lent.area.now run lent.sum pre.starts_value (search rules);
     }

@@ -13,7 +13,7 @@ mark-requires c = let pre = c.requires in
     let own = pre.readings in
     record {
       width_in_bounds = (own.1, own.2, own.3, own.4);
-      starts_value = covered_below lent.area.now run _ pre.starts_value (8 * length lent.marks.now) pre.area_len_bound.1
+      starts_value = covered_below lent.area.now run _ pre.starts_value (8 * length lent.marks.now) pre.area_len_bound.1;
     }
 
 pub returns : goal.returns

@@ -9,7 +9,7 @@ returns-then-start-floor c = search (rules, object_full)
 pub object_head-requires : goal.object_head-requires
 object_head-requires c = record {
   readings = (search rules, search rules, search rules, search rules, search (rules, object_fits));
-  id_in_bounds = (search rules, search rules, search rules, search rules)
+  id_in_bounds = (search rules, search rules, search rules, search rules);
 }
 
 pub returns : goal.returns

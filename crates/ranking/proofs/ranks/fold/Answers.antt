@@ -49,8 +49,9 @@ loop-i-preserved c = let pre = c.requires in
     let test = c.loop-i-test.true in
     let told = c.name_before.ensures in
     elim c.if-name_before.branch [
-    then-name_before w ↦ fold_new seen below test _ c.id_at-id.ensures.0 _ told w.if-name_before.true (w.ids-is ∙ w.put_id.ensures) w.kept-is c.set_normal-in-loop-i.ensures
-    | else-name_before w ↦ fold_same seen below test _ c.id_at-id.ensures.0 _ told w.if-name_before.false w.ids-is w.kept-is c.set_normal-in-loop-i.ensures ]
+      | then-name_before w ↦ fold_new seen below test _ c.id_at-id.ensures.0 _ told w.if-name_before.true (w.ids-is ∙ w.put_id.ensures) w.kept-is c.set_normal-in-loop-i.ensures
+      | else-name_before w ↦ fold_same seen below test _ c.id_at-id.ensures.0 _ told w.if-name_before.false w.ids-is w.kept-is c.set_normal-in-loop-i.ensures
+    ]
 
 pub returns : goal.returns
 returns c = search (rules, fold_done)

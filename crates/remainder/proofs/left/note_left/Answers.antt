@@ -30,9 +30,11 @@ write-requires c = search (rules, note_ids)
 -- A member is noted, or it is named.
 pub loop-k-preserved : goal.loop-k-preserved
 loop-k-preserved c = let pre = c.requires in
-    elim c.if-not-names_id.branch [ then-not-names_id w ↦ note_left_lem c.loop-k.invariant c.loop-k-test.true c.id_at-id.ensures c.pass-place.ensures c.names_id.ensures pre
-    (ap not w.if-not-names_id.true) w.notes-is (w.ids-is ∙ w.write.ensures) w.n-is
-    | else-not-names_id w ↦ search (rules, note_named) ]
+    elim c.if-not-names_id.branch [
+      | then-not-names_id w ↦ note_left_lem c.loop-k.invariant c.loop-k-test.true c.id_at-id.ensures c.pass-place.ensures c.names_id.ensures pre
+          (ap not w.if-not-names_id.true) w.notes-is (w.ids-is ∙ w.write.ensures) w.n-is
+      | else-not-names_id w ↦ search (rules, note_named)
+    ]
 
 pub returns : goal.returns
 returns c = search (rules, note_done)

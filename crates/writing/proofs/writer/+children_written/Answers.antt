@@ -92,7 +92,7 @@ written-object_head-requires t c = let is = c.reading_by-says.ensures in
         object_least c.requires.1 _ is _ _ _ e,
         object_most c.requires.1 _ is _ _ _ e,
         object_ranked c.requires.1 _ is _ _ _ e laid,
-      )
+      );
     }
 
 pub written-layout_of-l-requires-in-ArrayHead : goal.written-layout_of-l-requires-in-ArrayHead
