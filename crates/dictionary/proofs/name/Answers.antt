@@ -29,7 +29,7 @@ overflow_add-area-3 c = let places = name_places c.requires in search rules
 pub read-from-requires : goal.read-from-requires
 read-from-requires c = let places = name_places c.requires in
     let width = opened_width c.requires.0 in
-    (omega arith, width.0, width.1 (omega (arith, c.shared_slice_known-1.given 0)))
+    (omega arith, width.0, width.1 (omega (arith, c.type_inv.metadata 0)))
 
 pub overflow_add-place-3 : goal.overflow_add-place-3
 overflow_add-place-3 c = let places = name_places c.requires in search rules
@@ -37,7 +37,7 @@ overflow_add-place-3 c = let places = name_places c.requires in search rules
 pub read-to-requires : goal.read-to-requires
 read-to-requires c = let places = name_places c.requires in
     let width = opened_width c.requires.0 in
-    (omega arith, width.0, width.1 (omega (arith, c.shared_slice_known-1.given 0)))
+    (omega arith, width.0, width.1 (omega (arith, c.type_inv.metadata 0)))
 
 pub slice_bounds-names-count : goal.slice_bounds-names-count
 slice_bounds-names-count c = let places = name_places c.requires in search rules

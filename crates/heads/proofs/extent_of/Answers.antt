@@ -15,7 +15,7 @@ overflow_add-result c = let told = fixed_sizes _ (sym c.reading_by-says.ensures 
 
 pub overflow_add-result-in-Short : goal.overflow_add-result-in-Short
 overflow_add-result-in-Short c = let told = short_sizes _ (sym c.reading_by-says.ensures ∙ c.in-Short.is) in
-    record { fits = omega (arith, c.shared_slice_known-3-1.given 0) }
+    record { fits = omega (arith, c.type_inv.s 0) }
 
 pub container_extent-requires : goal.container_extent-requires
 container_extent-requires c = let told = object_sizes _ (sym c.reading_by-says.ensures ∙ c.in-ObjectHead.is) in

@@ -8,4 +8,4 @@ pub hand_out-requires : goal.hand_out-requires
 hand_out-requires c = search (rules, no_choice)
 
 pub returns-then-stands : goal.returns-then-stands
-returns-then-stands c = stands_answers c.requires (λ i. omega (arith, c.shared_slice_known-2-1.given i)) _ c.stands.ensures c.if-stands.true c.hand_out.ensures
+returns-then-stands c = stands_answers c.requires (λ i. omega (arith, c.type_inv.value i)) _ c.stands.ensures c.if-stands.true c.hand_out.ensures

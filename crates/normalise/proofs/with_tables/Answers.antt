@@ -15,4 +15,4 @@ rank-count-requires c = (c.requires.0.opened, search rules, search rules, search
 pub with_room-requires : goal.with_room-requires
 unfolding readings
 with_room-requires c = let pre = c.requires in
-    (readings_all, numbered pre.0 (λ i. omega (arith, c.shared_slice_known-2-1.given i)) c.mark.ensures pre.4 pre.1 c.rank-count.ensures (search rules) (search rules), pre.0.value_short)
+    (readings_all, numbered pre.0 (λ i. omega (arith, c.type_inv.value i)) c.mark.ensures pre.4 pre.1 c.rank-count.ensures (search rules) (search rules), pre.0.value_short)

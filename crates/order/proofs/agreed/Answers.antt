@@ -6,6 +6,6 @@ use Rattle.order.proofs.agreed.Goals as goal
 pub loop-i-preserved : goal.loop-i-preserved
 loop-i-preserved c = (
   omega arith,
-  agreed_more _ _ (λ i. omega (arith, c.shared_slice_known-1.given i)) (λ i. omega (arith, c.shared_slice_known-2-1.given i))
+  agreed_more _ _ (λ i. omega (arith, c.type_inv.a i)) (λ i. omega (arith, c.type_inv.b i))
       _ _ c.loop-i.invariant.1 (omega arith) (omega arith) (omega arith),
 )

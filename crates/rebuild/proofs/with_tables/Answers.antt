@@ -16,5 +16,5 @@ pub with_room-requires : goal.with_room-requires
 unfolding readings
 with_room-requires c = let pre = c.requires in (
   readings_all,
-  numbered pre.0 (λ i. omega (arith, c.shared_slice_known-2-1.given i)) c.place.ensures pre.4 pre.1 c.rank-count.ensures (search rules) (search rules),
+  numbered pre.0 (λ i. omega (arith, c.type_inv.row i)) c.place.ensures pre.4 pre.1 c.rank-count.ensures (search rules) (search rules),
 )

@@ -26,7 +26,7 @@ rebuild-requires c = rebuild_asks _ _ c.if-schema-gt-MOST_SCHEMA.false c.if-row-
 pub returns-in-Lawful : goal.returns-in-Lawful
 returns-in-Lawful c = rebuild_lawful _ _ c.if-schema-gt-MOST_SCHEMA.false c.if-row-gt-MOST_ROW.false _ c.good.ensures (ap not c.if-not-good.false)
     _ _ c.judge-judged.ensures c.in-Lawful.is (search rules)
-    (λ i. omega (arith, c.shared_slice_known-2-1.given i)) c.rebuild.ensures
+    (λ i. omega (arith, c.type_inv.row i)) c.rebuild.ensures
 
 pub returns-in-Broken : goal.returns-in-Broken
 returns-in-Broken c = rebuild_broken _ _ c.if-schema-gt-MOST_SCHEMA.false c.if-row-gt-MOST_ROW.false _ c.good.ensures (ap not c.if-not-good.false)

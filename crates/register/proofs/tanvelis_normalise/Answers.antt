@@ -6,7 +6,7 @@ use Rattle.register.proofs.NormaliseLaws.{answer_fits}
 use Rattle.register.proofs.tanvelis_normalise.Goals as goal
 
 pub document_word-requires : goal.document_word-requires
-document_word-requires c = answer_fits _ _ (λ i. omega (arith, c.shared_slice_known-1.given i)) _ _ _ _ _ c.normalise.ensures
+document_word-requires c = answer_fits _ _ (λ i. omega (arith, c.type_inv.metadata i)) _ _ _ _ _ c.normalise.ensures
 
 pub returns : goal.returns
 returns c = let answered = c.normalise.ensures in

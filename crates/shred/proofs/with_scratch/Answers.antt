@@ -20,7 +20,7 @@ slice_bounds-with_tables-end-in-Done-3 c = sym (length-take-le _ _ (value_inside
 
 pub with_tables-requires : goal.with_tables-requires
 with_tables-requires c = let scratch = c.requires.3 in (
-  normal_asked c.requires.0 c.normalise-answer.ensures (λ i. omega (arith, c.shared_slice_known-2-1.given i)) c.requires.2 c.in-Done.is c.requires.1,
+  normal_asked c.requires.0 c.normalise-answer.ensures (λ i. omega (arith, c.type_inv.metadata i)) c.requires.2 c.in-Done.is c.requires.1,
   rw length-take (omega (arith, scratch.ranks_room, c.normalise-answer.auto)),
   rw length-take (omega (arith, scratch.notes_room, c.normalise-answer.auto)),
   rw length-take (omega (arith, scratch.ids_room, c.normalise-answer.auto)),
@@ -28,13 +28,13 @@ with_tables-requires c = let scratch = c.requires.3 in (
 )
 
 pub returns-in-Done : goal.returns-in-Done
-returns-in-Done c = normal_answers c.requires.0 c.normalise-answer.ensures (λ i. omega (arith, c.shared_slice_known-2-1.given i)) c.requires.2 c.in-Done.is
+returns-in-Done c = normal_answers c.requires.0 c.normalise-answer.ensures (λ i. omega (arith, c.type_inv.metadata i)) c.requires.2 c.in-Done.is
     c.with_tables.ensures
 
 pub returns-in-Short : goal.returns-in-Short
 returns-in-Short c = absurd
-    (short_never c.requires.0 c.normalise-answer.ensures (λ i. omega (arith, c.shared_slice_known-2-1.given i)) c.in-Short.is
-    (λ i. omega (arith, c.shared_slice_known-3-1.given i)) c.requires.3)
+    (short_never c.requires.0 c.normalise-answer.ensures (λ i. omega (arith, c.type_inv.metadata i)) c.in-Short.is
+    (λ i. omega (arith, c.type_inv.value i)) c.requires.3)
 
 pub returns-in-Refused : goal.returns-in-Refused
 returns-in-Refused c = refused_answers c.requires.0 c.normalise-answer.ensures c.in-Refused.is _ _

@@ -71,4 +71,4 @@ pub overflow_add-result : goal.overflow_add-result
 overflow_add-result c = (count_fits c.loop-field.invariant c.note_left-last.ensures.forward c.note_left-last.ensures.within c.requires.schema_len_bound.2 c.well_formed.1.1.1.1.1.1.1.1.1.1.1.0.0).0
 
 pub returns : goal.returns
-returns c = members_done c.loop-field.invariant c.loop-field-test.false (λ i. omega (arith, c.shared_slice_known-1.given i)) c.note_left-last.ensures
+returns c = members_done c.loop-field.invariant c.loop-field-test.false (λ i. omega (arith, c.type_inv.ranks i)) c.note_left-last.ensures

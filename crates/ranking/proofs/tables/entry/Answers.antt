@@ -4,7 +4,7 @@ use borrow.Author.Rules.{rules}
 use Rattle.ranking.proofs.tables.entry.Goals as goal
 
 pub overflow_cast-result : goal.overflow_cast-result
-overflow_cast-result c = omega (arith, c.shared_slice_known-1.given c.args.place)
+overflow_cast-result c = omega (arith, c.type_inv.table c.args.place)
 
 pub returns : goal.returns
-returns c = search (rules, c.shared_slice_known-1.given c.args.place)
+returns c = search (rules, c.type_inv.table c.args.place)
