@@ -1,6 +1,5 @@
-// The register's operations, and each as a function for C (`include/tanvelis.h`). None requires anything of its caller:
-// any bytes may be lent. What an operation answers is a definition of `paper`; what crosses to C is the word of that
-// answer, and for a box and a cell words of their own (`words/specs/`).
+// The register's operations. None requires anything of its caller: any bytes may be lent. What an operation answers is a
+// definition of `paper`. Each stands in `register_c` as a function for C.
 #![tactic(auto)]
 
 ghost use Rattle.std.specs.Prelude.{◌≡◌, true, ◌≤◌, length};
@@ -11,23 +10,19 @@ ghost use Rattle.paper.specs.Limits.{most_levels, most_schema};
 ghost use Rattle.paper.specs.Meaning.{Doc};
 ghost use Rattle.paper.specs.Metadata.{names_in};
 ghost use Rattle.normalise.specs.Answered.{Answered, Lent};
-ghost use Rattle.numbers.specs.Little.{put_at};
-ghost use Rattle.paper.specs.Operations.{normalise_outcome, row_outcome, shred_outcome, rebuild_outcome, document_answer, metadata_written, value_written, row_answer, row_written, check_answer, find_answer, judge_answer, found_by, cell_answer, box_answer};
+ghost use Rattle.paper.specs.Operations.{normalise_outcome, row_outcome, shred_outcome, rebuild_outcome, check_answer, find_answer, judge_answer, found_by, cell_answer, box_answer};
 ghost use Rattle.paper.specs.Paths.{path_of, find_from};
 ghost use Rattle.paper.specs.Refusals.{obtain, reached};
 ghost use Rattle.paper.specs.Schemas.{schema_of};
 ghost use Rattle.paper.specs.Values.{meaning_of};
 ghost use Rattle.paper.specs.Words.{is_there};
 ghost use Rattle.handing.specs.Handing.{RowAnswered};
-ghost use Rattle.words.specs.Boundary.{checked_word, found_word, document_word, row_word, document_has_room, cell_word, box_word};
-ghost use Rattle.words.specs.BoxParts.{side_word};
-ghost use Rattle.words.specs.CellParts.{first_word, second_word};
+ghost use Rattle.words.specs.Boundary.{document_has_room};
 
 use dictionary::Names;
 use documents::Document;
 use paper::{BoxAnswer, CellAnswer, Checked, DocumentAnswer, Found, Refusal, RowAnswer};
 use rows::RowJudged;
-use words::Side;
 
 // ---- check
 
@@ -40,13 +35,6 @@ pub fn check(metadata: &[u8], value: &[u8]) -> Checked
         Document::Lawful(_) => Checked::Good,
         Document::Refused(refusal) => Checked::Refused(refusal),
     }
-}
-
-#[unsafe(no_mangle)]
-pub extern "C" fn tanvelis_check(metadata: &[u8], value: &[u8]) -> u64
-    ensures { result ≡ checked_word (check_answer metadata.now value.now) }
-{
-    words::checked_word(check(metadata, value))
 }
 
 // ---- find
@@ -76,13 +64,6 @@ pub fn find(metadata: &[u8], value: &[u8], path: &[u8]) -> Found
     }
 }
 
-#[unsafe(no_mangle)]
-pub extern "C" fn tanvelis_find(metadata: &[u8], value: &[u8], path: &[u8]) -> u64
-    ensures { result ≡ found_word (find_answer metadata.now value.now path.now) }
-{
-    words::found_word(find(metadata, value, path))
-}
-
 // ---- normalise
 
 // Normalises a Variant: writes the normal form of what it means into two buffers, metadata and value.
@@ -101,18 +82,6 @@ pub fn normalise(
         }
         Document::Refused(refusal) => DocumentAnswer::Refused(refusal),
     }
-}
-
-#[unsafe(no_mangle)]
-pub extern "C" fn tanvelis_normalise(
-    metadata: &[u8],
-    value: &[u8],
-    metadata_out: &mut [u8],
-    value_out: &mut [u8],
-) -> u64
-    ensures { (result ≡ document_word (document_answer (normalise_outcome metadata.now value.now) (length metadata_out.old) (length value_out.old))) × (metadata_out.new ≡ put_at metadata_out.old 0 (metadata_written (normalise_outcome metadata.now value.now) (length metadata_out.old) (length value_out.old))) × (value_out.new ≡ put_at value_out.old 0 (value_written (normalise_outcome metadata.now value.now) (length metadata_out.old) (length value_out.old))) }
-{
-    words::document_word(normalise(metadata, value, metadata_out, value_out))
 }
 
 // ---- shred
@@ -148,18 +117,6 @@ pub fn shred(schema: &[u8], metadata: &[u8], value: &[u8], row: &mut [u8]) -> Ro
     }
 }
 
-#[unsafe(no_mangle)]
-pub extern "C" fn tanvelis_shred(
-    schema: &[u8],
-    metadata: &[u8],
-    value: &[u8],
-    row: &mut [u8],
-) -> u64
-    ensures { (result ≡ row_word (row_answer (shred_outcome schema.now metadata.now value.now) (length row.old))) × (row.new ≡ put_at row.old 0 (row_written (shred_outcome schema.now metadata.now value.now) (length row.old))) }
-{
-    words::row_word(shred(schema, metadata, value, row))
-}
-
 // ---- a row judged
 
 // Judges a row under a schema, as rebuild does before it writes: 1, 4, 6 and 7.
@@ -184,17 +141,11 @@ pub fn judge(schema: &[u8], row: &[u8]) -> Checked
     }
 }
 
-#[unsafe(no_mangle)]
-pub extern "C" fn tanvelis_judge(schema: &[u8], row: &[u8]) -> u64
-    ensures { result ≡ checked_word (judge_answer schema.now row.now) }
-{
-    words::checked_word(judge(schema, row))
-}
-
 // ---- rebuild
 
-// Rebuilds the document of a row under a schema. The lengths that it answers have room in a word.
-fn rebuild_row(
+// Rebuilds the document of a row under a schema. The lengths that it answers have room in a word: `register_c` makes that
+// word, and so this is `pub`.
+pub fn rebuild_row(
     schema: &[u8],
     row: &[u8],
     metadata_out: &mut [u8],
@@ -234,18 +185,6 @@ pub fn rebuild(
     rebuild_row(schema, row, metadata_out, value_out)
 }
 
-#[unsafe(no_mangle)]
-pub extern "C" fn tanvelis_rebuild(
-    schema: &[u8],
-    row: &[u8],
-    metadata_out: &mut [u8],
-    value_out: &mut [u8],
-) -> u64
-    ensures { (result ≡ document_word (document_answer (rebuild_outcome schema.now row.now) (length metadata_out.old) (length value_out.old))) × (metadata_out.new ≡ put_at metadata_out.old 0 (metadata_written (rebuild_outcome schema.now row.now) (length metadata_out.old) (length value_out.old))) × (value_out.new ≡ put_at value_out.old 0 (value_written (rebuild_outcome schema.now row.now) (length metadata_out.old) (length value_out.old))) }
-{
-    words::document_word(rebuild_row(schema, row, metadata_out, value_out))
-}
-
 // ---- a lot's box
 
 // Reads a lot's box from a document's outermost object.
@@ -259,41 +198,6 @@ pub fn lot_box(metadata: &[u8], value: &[u8]) -> BoxAnswer
     }
 }
 
-#[unsafe(no_mangle)]
-pub extern "C" fn tanvelis_box(metadata: &[u8], value: &[u8]) -> u64
-    ensures { result ≡ box_word (box_answer metadata.now value.now) }
-{
-    words::box_word(lot_box(metadata, value))
-}
-
-#[unsafe(no_mangle)]
-pub extern "C" fn tanvelis_box_east(metadata: &[u8], value: &[u8]) -> u64
-    ensures { result ≡ side_word Side.East (box_answer metadata.now value.now) }
-{
-    words::side_word(Side::East, lot_box(metadata, value))
-}
-
-#[unsafe(no_mangle)]
-pub extern "C" fn tanvelis_box_north(metadata: &[u8], value: &[u8]) -> u64
-    ensures { result ≡ side_word Side.North (box_answer metadata.now value.now) }
-{
-    words::side_word(Side::North, lot_box(metadata, value))
-}
-
-#[unsafe(no_mangle)]
-pub extern "C" fn tanvelis_box_south(metadata: &[u8], value: &[u8]) -> u64
-    ensures { result ≡ side_word Side.South (box_answer metadata.now value.now) }
-{
-    words::side_word(Side::South, lot_box(metadata, value))
-}
-
-#[unsafe(no_mangle)]
-pub extern "C" fn tanvelis_box_west(metadata: &[u8], value: &[u8]) -> u64
-    ensures { result ≡ side_word Side.West (box_answer metadata.now value.now) }
-{
-    words::side_word(Side::West, lot_box(metadata, value))
-}
-
 // ---- one typed cell
 
 // Reads one typed cell, given a type code and its bytes.
@@ -301,28 +205,4 @@ pub fn cell(code: u8, bytes: &[u8]) -> CellAnswer
     ensures { result ≡ cell_answer code bytes.now }
 {
     cells::cell(code, bytes)
-}
-
-// For C: whether it was read, and the kind; or the refusal's number.
-#[unsafe(no_mangle)]
-pub extern "C" fn tanvelis_cell(code: u8, bytes: &[u8]) -> u64
-    ensures { result ≡ cell_word (cell_answer code bytes.now) }
-{
-    words::cell_word(cell(code, bytes))
-}
-
-// For C: the first word of what the cell holds.
-#[unsafe(no_mangle)]
-pub extern "C" fn tanvelis_cell_first(code: u8, bytes: &[u8]) -> u64
-    ensures { result ≡ first_word (cell_answer code bytes.now) }
-{
-    words::first_word(cell(code, bytes))
-}
-
-// For C: the second word of what the cell holds.
-#[unsafe(no_mangle)]
-pub extern "C" fn tanvelis_cell_second(code: u8, bytes: &[u8]) -> u64
-    ensures { result ≡ second_word (cell_answer code bytes.now) }
-{
-    words::second_word(cell(code, bytes))
 }

@@ -3,10 +3,10 @@ use mathlib.Core.Path.{ap, ◌∙◌}
 use Rattle.words.specs.BoxParts.{side_word, side_has_bits}
 use Rattle.words.specs.declared.boxes.Side.TheVariants.{South}
 use Rattle.words.proofs.BoxLaws.{side_has_bits_lem}
-use Rattle.register.proofs.tanvelis_box_south.Goals as goal
+use Rattle.register_c.proofs.tanvelis_box_south.Goals as goal
 
 pub side_word-requires : goal.side_word-requires
-side_word-requires c = ap (side_has_bits _) c.lot_box.ensures ∙ side_has_bits_lem _ _ _
+side_word-requires c = ap (side_has_bits South) c.lot_box.ensures ∙ side_has_bits_lem South _ _
 
 pub returns : goal.returns
 returns c = c.side_word.ensures ∙ ap (side_word South) c.lot_box.ensures

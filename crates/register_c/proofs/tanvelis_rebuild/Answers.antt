@@ -1,7 +1,7 @@
 -- `tanvelis_rebuild`: the word of what `rebuild_row` answers, whose lengths have room in it.
 use mathlib.Core.Path.{ap, ◌∙◌}
 use Rattle.words.specs.Boundary.{document_word}
-use Rattle.register.proofs.tanvelis_rebuild.Goals as goal
+use Rattle.register_c.proofs.tanvelis_rebuild.Goals as goal
 
 pub returns : goal.returns
 returns c = let answered = c.rebuild_row.ensures.0 in

@@ -2,7 +2,7 @@
 use mathlib.Core.Path.{ap, ◌∙◌}
 use Rattle.words.specs.Boundary.{row_word}
 use Rattle.register.proofs.ShredLaws.{row_fits}
-use Rattle.register.proofs.tanvelis_shred.Goals as goal
+use Rattle.register_c.proofs.tanvelis_shred.Goals as goal
 
 pub row_word-requires : goal.row_word-requires
 row_word-requires c = row_fits _ _ _ c.shred.ensures

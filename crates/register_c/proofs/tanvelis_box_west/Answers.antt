@@ -3,10 +3,10 @@ use mathlib.Core.Path.{ap, ◌∙◌}
 use Rattle.words.specs.BoxParts.{side_word, side_has_bits}
 use Rattle.words.specs.declared.boxes.Side.TheVariants.{West}
 use Rattle.words.proofs.BoxLaws.{side_has_bits_lem}
-use Rattle.register.proofs.tanvelis_box_west.Goals as goal
+use Rattle.register_c.proofs.tanvelis_box_west.Goals as goal
 
 pub side_word-requires : goal.side_word-requires
-side_word-requires c = ap (side_has_bits _) c.lot_box.ensures ∙ side_has_bits_lem _ _ _
+side_word-requires c = ap (side_has_bits West) c.lot_box.ensures ∙ side_has_bits_lem West _ _
 
 pub returns : goal.returns
 returns c = c.side_word.ensures ∙ ap (side_word West) c.lot_box.ensures
