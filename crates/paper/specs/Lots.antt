@@ -16,17 +16,17 @@ pub data Lot : Type 0 where
   refused_row : (schema row : List ℕ) → Refusal → Lot
 
 -- A lot holds of the definitions.
-unfoldable pub holds : Lot → Type 0
-holds (checks metadata value number) = checked_number (check_answer metadata value) ≡ number
-holds (means metadata value d) = check_outcome metadata value ≡ reached d
-holds (shreds schema metadata value row) = shred_outcome schema metadata value ≡ reached row
-holds (rebuilds schema row metadata value) = rebuild_outcome schema row ≡ reached (record { metadata = metadata; value = value })
-holds (refused_row schema row refusal) = rebuild_outcome schema row ≡ refused refusal
+unfoldable pub Holds : Lot → Type 0
+Holds (checks metadata value number) = checked_number (check_answer metadata value) ≡ number
+Holds (means metadata value d) = check_outcome metadata value ≡ reached d
+Holds (shreds schema metadata value row) = shred_outcome schema metadata value ≡ reached row
+Holds (rebuilds schema row metadata value) = rebuild_outcome schema row ≡ reached (record { metadata = metadata; value = value })
+Holds (refused_row schema row refusal) = rebuild_outcome schema row ≡ refused refusal
 
 unfoldable pub AllHold : List Lot → Type 0
-unfolding holds
+unfolding Holds
 AllHold [] = Unit {0}
-AllHold (lot ∷ lots) = holds lot × AllHold lots
+AllHold (lot ∷ lots) = Holds lot × AllHold lots
 
 -- ---- names for bytes that stand in several lots
 
