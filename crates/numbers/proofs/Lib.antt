@@ -1,7 +1,6 @@
 -- Laws of the numbers in bytes, for the proofs of this crate and of those above it.
 
 pub mod Table
-pub mod Cycle
 pub mod NumberLaws
 pub mod PutLaws
 pub mod WidthLaws
