@@ -4,29 +4,31 @@
     tools/definitions.py FILE [--most N] [--op OP]
 
 FILE has cases in the format of vectors/README.md. Each case becomes one antt statement, that the definition's answer of
-the inputs is the answer in the file, and the checker computes both sides. The statements stand in a crate of their own
-under target/, outside the gate's crates; they need the proved crates below (make definitions proves them first).
+the inputs is the answer in the file, and the checker computes both sides. The statements stand in a crate of their own, in
+a folder that goes with the run and lies outside the repository, where rt ci would refuse it; they need the crates below
+proved and built, in crates/NAME/out (make definitions does it first).
 """
 import os
 import re
 import subprocess
 import sys
+import tempfile
 
 ROOT = os.path.dirname(os.path.dirname(os.path.abspath(__file__)))
-CRATE = os.path.join(ROOT, "target", "definitions", "running_cases")
+NAME = "running_cases"
 DEPS = ["paper", "numbers", "signed", "order"]
 OPS = ["check", "find", "normalise", "shred", "rebuild", "cell", "box"]
 PER_FILE = 125
 
 HEAD = """-- Made by tools/definitions.py: cases computed by the definitions.
-use mathlib.Core.Path.{_≡_, refl}
-use mathlib.Core.List.{List, [], _∷_}
+use mathlib.Core.Path.{◌≡◌, refl}
+use mathlib.Core.List.{List, [], ◌∷◌}
 use Prim.Native.Nat.{ℕ, zero, suc}
 use lib.ListN.{length}
-use Rattle·numbers.specs.Little.{number, numberBytes}
-use Rattle·paper.specs.Answers.{Carried, numberOf, presentOf, valueOf, checkedCarries, foundCarries, documentCarries, rowCarries, cellCarries, boxCarries}
-use Rattle·paper.specs.Operations.{checkAnswer, findAnswer, normaliseOutcome, shredOutcome, rebuildOutcome, documentAnswer, metadataWritten, valueWritten, rowAnswer, rowWritten, cellAnswer, boxAnswer}
-use Rattle·paper.specs.Running.{running}
+use Rattle.numbers.specs.Little.{number, number_bytes}
+use Rattle.paper.specs.Answers.{Carried, number_of, present_of, value_of, checked_carries, found_carries, document_carries, row_carries, cell_carries, box_carries}
+use Rattle.paper.specs.Operations.{check_answer, find_answer, normalise_outcome, shred_outcome, rebuild_outcome, document_answer, metadata_written, value_written, row_answer, row_written, cell_answer, box_answer}
+use Rattle.paper.specs.Running.{running}
 
 """
 
@@ -34,9 +36,9 @@ use Rattle·paper.specs.Running.{running}
 def list_of(text):
     """Bytes as the checker's list: the number they hold, and how many they are."""
     if text == "-":
-        return "(numberBytes 0 0)"
+        return "(number_bytes 0 0)"
     data = bytes.fromhex(text)
-    return f"(numberBytes {len(data)} 0x{data[::-1].hex()})"
+    return f"(number_bytes {len(data)} 0x{data[::-1].hex()})"
 
 
 def held(text):
@@ -67,39 +69,39 @@ def cell_values(kind, words):
 def statement(op, left, right):
     """The two sides of the equation that a case states."""
     if op == "check":
-        answer = f"checkAnswer {list_of(left[0])} {list_of(left[1])}"
-        return f"said 0 (checkedCarries ({answer}))", carries(right[0], there(right[0]), [])
+        answer = f"check_answer {list_of(left[0])} {list_of(left[1])}"
+        return f"said 0 (checked_carries ({answer}))", carries(right[0], there(right[0]), [])
     if op == "find":
-        answer = f"findAnswer {list_of(left[0])} {list_of(left[1])} {list_of(left[2])}"
-        return f"said 2 (foundCarries ({answer}))", carries(right[0], right[1], right[2:])
+        answer = f"find_answer {list_of(left[0])} {list_of(left[1])} {list_of(left[2])}"
+        return f"said 2 (found_carries ({answer}))", carries(right[0], right[1], right[2:])
     if op in ("normalise", "rebuild"):
-        outcome = f"({op}Outcome {list_of(left[0])} {list_of(left[1])})"
+        outcome = f"({op}_outcome {list_of(left[0])} {list_of(left[1])})"
         rooms = f"{left[2]} {left[3]}"
-        made = [f"({what}Written {outcome} {rooms})" for what in ("metadata", "value")]
+        made = [f"({what}_written {outcome} {rooms})" for what in ("metadata", "value")]
         return (
-            f"joint (said 2 (documentCarries (documentAnswer {outcome} {rooms}))) {made[0]} {made[1]}",
+            f"joint (said 2 (document_carries (document_answer {outcome} {rooms}))) {made[0]} {made[1]}",
             carries(right[0], there(right[0]), [*right[1:3], held(right[3]), held(right[4])]),
         )
     if op == "shred":
-        outcome = f"(shredOutcome {list_of(left[0])} {list_of(left[1])} {list_of(left[2])})"
+        outcome = f"(shred_outcome {list_of(left[0])} {list_of(left[1])} {list_of(left[2])})"
         return (
-            f"joint (said 1 (rowCarries (rowAnswer {outcome} {left[3]}))) (rowWritten {outcome} {left[3]}) []",
+            f"joint (said 1 (row_carries (row_answer {outcome} {left[3]}))) (row_written {outcome} {left[3]}) []",
             carries(right[0], there(right[0]), [right[1], held(right[2]), held("-")]),
         )
     if op == "cell":
-        answer = f"cellAnswer {left[0]} {list_of(left[1])}"
-        return f"said 3 (cellCarries ({answer}))", carries(right[0], there(right[0]), cell_values(right[1], right[2:]))
-    answer = f"boxAnswer {list_of(left[0])} {list_of(left[1])}"
-    return f"said 4 (boxCarries ({answer}))", carries(right[0], right[1], right[2:])
+        answer = f"cell_answer {left[0]} {list_of(left[1])}"
+        return f"said 3 (cell_carries ({answer}))", carries(right[0], there(right[0]), cell_values(right[1], right[2:]))
+    answer = f"box_answer {list_of(left[0])} {list_of(left[1])}"
+    return f"said 4 (box_carries ({answer}))", carries(right[0], right[1], right[2:])
 
 
 SHARED = """-- An answer's number, whether it is present, and so many of its values.
 values : (count place : ℕ) → Carried → List ℕ
 values zero place answer = []
-values (suc count) place answer = valueOf answer place ∷ values count (suc place) answer
+values (suc count) place answer = value_of answer place ∷ values count (suc place) answer
 
 said : (count : ℕ) → Carried → List ℕ
-said count answer = numberOf answer ∷ presentOf answer ∷ values count 0 answer
+said count answer = number_of answer ∷ present_of answer ∷ values count 0 answer
 
 -- These, and what was written, by its count and the number it holds.
 joint : List ℕ → List ℕ → List ℕ → List ℕ
@@ -109,14 +111,12 @@ joint (value ∷ more) first second = value ∷ joint more first second
 """
 
 
-def write_crate(cases):
+def write_crate(crate, cases):
     """One module for each run of cases; the line where each case stands."""
-    os.makedirs(os.path.join(CRATE, "src"), exist_ok=True)
-    specs = os.path.join(CRATE, "specs")
-    os.makedirs(specs, exist_ok=True)
-    for old in os.listdir(specs):
-        os.remove(os.path.join(specs, old))
-    with open(os.path.join(CRATE, "src", "lib.rt"), "w") as f:
+    os.makedirs(os.path.join(crate, "src"))
+    specs = os.path.join(crate, "specs")
+    os.makedirs(specs)
+    with open(os.path.join(crate, "src", "lib.rt"), "w") as f:
         f.write("// Cases computed by the definitions; see specs/.\n")
     places, modules = {}, []
     for op in OPS:
@@ -129,7 +129,7 @@ def write_crate(cases):
             for number, (_, left, right, source) in enumerate(mine[k : k + PER_FILE]):
                 said, expected = statement(op, left, right)
                 name = f"case-{source}"
-                text += f"{name} : _≡_ ({said}) ({expected})\nunfolding running values said joint\n{name} = refl\n\n"
+                text += f"{name} : ◌≡◌ ({said}) ({expected})\nunfolding running values said joint\n{name} = refl\n\n"
                 places[(module, line)] = (op, source)
                 line += 4
             with open(os.path.join(specs, module + ".antt"), "w") as f:
@@ -139,12 +139,12 @@ def write_crate(cases):
     return places
 
 
-def run_crate():
-    words = ["rt", "check", CRATE]
+def run_crate(crate):
+    words = ["rt", "check", NAME]
     for dep in DEPS:
-        words += ["--extern", f"{dep}={ROOT}/target/rlib/{dep}.rlib"]
-    words += ["-L", f"dependency={ROOT}/target/rlib"]
-    return subprocess.run(words, capture_output=True, text=True, cwd=ROOT, env=dict(os.environ, RT_CUT="0"))
+        folder = f"{ROOT}/crates/{dep}/out/rlib"
+        words += ["--extern", f"{dep}={folder}/{dep}.rlib", "-L", f"dependency={folder}"]
+    return subprocess.run(words, capture_output=True, text=True, cwd=crate)
 
 
 def main(argv):
@@ -168,8 +168,9 @@ def main(argv):
             continue
         taken[op] += 1
         cases.append((op, args, right.split(), number))
-    places = write_crate(cases)
-    result = run_crate()
+    with tempfile.TemporaryDirectory(prefix="definitions-") as crate:
+        places = write_crate(crate, cases)
+        result = run_crate(crate)
     said = result.stdout + result.stderr
     wrong = set()
     for module, line in re.findall(r"specs/(\w+)\.antt:(\d+):\d+: (?:error|`)", said):
