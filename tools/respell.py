@@ -84,6 +84,11 @@ def from_kit():
     return names
 
 
+# Where the rule would give a name that is too near another one: a variable `columns` beside a constructor `no_columns`.
+OTHERWISE = {"noColumns": "none_named"}
+# A fact whose name is that of a function in another crate.
+IN_ONE_FILE = {os.path.join("paper", "specs", "Lots.antt"): {"holds": "Holds"}}
+
 CRATES = set(os.listdir(os.path.join(ROOT, "crates")))
 
 
@@ -172,6 +177,7 @@ def table():
                     clashing.add(last)
         for name in clashing:
             new[name] = new.get(name, name) + ("_of" if name in specs else "_lem" if name in everything else "_here")
+    new.update(OTHERWISE)
     return {old: spelled for old, spelled in new.items() if old != spelled}, facts
 
 
@@ -198,7 +204,8 @@ def main(argv):
     for path in files(".antt", ".rt", ".edit"):
         text = text_of(path)
         of_function = path.endswith(".antt") and not is_law_file(path)
-        done = turned(text, new, of_function)
+        own = IN_ONE_FILE.get(os.path.relpath(path, os.path.join(ROOT, "crates")), {})
+        done = turned(text, {**new, **own}, of_function)
         if done != text:
             with open(path, "w", encoding="utf-8") as f:
                 f.write(done)

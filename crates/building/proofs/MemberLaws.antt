@@ -18,7 +18,7 @@ use Rattle.lookup.specs.declared.Looked.{Looked}
 use Rattle.noting.specs.Notes.{Note, add_note, field_notes}
 use Rattle.paper.specs.Framing.{Piece}
 use Rattle.paper.specs.Metadata.{Dictionary}
-use Rattle.paper.specs.Schemas.{Schema, SchemaFields, no_columns, named}
+use Rattle.paper.specs.Schemas.{Schema, SchemaFields, none_named, named}
 use Rattle.paper.specs.Words.{part}
 use Rattle.places.proofs.StepLaws.{place_ends}
 use Rattle.places.specs.Frames.{place_end, place_frame}
@@ -41,12 +41,12 @@ use Rattle.building.specs.Building.{Ground, Bytes, Enough, PlaceReady, MemberRea
 
 no_notes : (columns : SchemaFields) (schema table : List ℕ) (field place : ℕ) → field_notes columns schema table field place [] ≡ []
 unfolding field_notes
-no_notes no_columns schema table field place = refl
+no_notes none_named schema table field place = refl
 no_notes (named name node more) schema table field place = refl
 
 no_members : (columns : SchemaFields) (levels : ℕ) (ranks schema table : List ℕ) (field : ℕ) → member_places columns levels ranks schema table field [] ≡ []
 unfolding member_places
-no_members no_columns levels ranks schema table field = refl
+no_members none_named levels ranks schema table field = refl
 no_members (named name node more) levels ranks schema table field = refl
 
 -- ---- the first of the places from a place on

@@ -18,7 +18,7 @@ use Rattle.noting.specs.Notes.{Note, add_note, left_notes, field_notes, Noted, m
 use Rattle.paper.specs.FirstBytes.{reading_of}
 use Rattle.paper.specs.Framing.{Piece}
 use Rattle.paper.specs.Limits.{most_row, most_schema}
-use Rattle.paper.specs.Schemas.{SchemaFields, no_columns, named}
+use Rattle.paper.specs.Schemas.{SchemaFields, none_named, named}
 use Rattle.paper.specs.Values.{head_size_of, area_of, starts_of, ids_of, meaning_of}
 use Rattle.paper.specs.Words.{at, numbers}
 use Rattle.paper.specs.declared.Reading.TheVariants.{ObjectHead}
@@ -45,7 +45,7 @@ add_few (b ∷ bs) Nowhere place field notes n h = omega arith
 
 fields_few : (columns : SchemaFields) (schema table : List ℕ) (field place : ℕ) (pieces : List Piece) → length (field_notes columns schema table field place pieces) ≤ length pieces
 unfolding field_notes
-fields_few no_columns schema table field place pieces = omega arith
+fields_few none_named schema table field place pieces = omega arith
 fields_few (named name node columns) schema table field place [] = omega arith
 fields_few (named name node columns) schema table field place (piece ∷ pieces) =
     add_few piece.body _ place field _ (length pieces) (fields_few columns schema table (frame_end schema field) (place + 3 + length piece.body) pieces)

@@ -15,7 +15,7 @@ use Rattle.members.specs.declared.Members.{Members}
 use Rattle.paper.specs.Framing.{frame}
 use Rattle.paper.specs.Meaning.{Doc, Fields}
 use Rattle.paper.specs.Metadata.{Dictionary, rising}
-use Rattle.paper.specs.Schemas.{Schema, SchemaFields, no_columns, named, column_names}
+use Rattle.paper.specs.Schemas.{Schema, SchemaFields, none_named, named, column_names}
 use Rattle.paper.specs.Shredding.{cut, cut_field, cut_fields, place_bytes, places_bytes}
 use Rattle.paper.specs.Standing.{field_at}
 use Rattle.putting.proofs.PutLaws.{put_join, told_here, told_full}
@@ -37,7 +37,7 @@ module _ {levels : ℕ} {ranks schema table : List ℕ} {from to : ℕ} {s : Lis
   pub fields_none : from ≡ to → {before : List ℕ} {end : ℕ} → PutAs (fields_cut ready) before before 0 end (At end)
   unfolding cut_fields places_bytes
   fields_none e {before} {end} =
-      let no_columns_lem : ready.columns ≡ no_columns = no_field ready.stand (omega arith) in
+      let no_columns_lem : ready.columns ≡ none_named = no_field ready.stand (omega arith) in
       let none_left : fields_cut ready ≡ [] = ap (λ (columns : SchemaFields). places_bytes ready.names (cut_fields columns ready.fs)) no_columns_lem in
       rw none_left (put end (omega arith) (nothing_ends before end))
 

@@ -12,7 +12,7 @@ use Rattle.paper.specs.Framing.{frame}
 use Rattle.paper.specs.Limits.{most_row}
 use Rattle.paper.specs.Meaning.{Fields, no_fields}
 use Rattle.paper.specs.Metadata.{Dictionary}
-use Rattle.paper.specs.Schemas.{SchemaFields, no_columns, named}
+use Rattle.paper.specs.Schemas.{SchemaFields, none_named, named}
 use Rattle.paper.specs.Shredding.{cut_field, cut_fields, place_bytes, places_bytes}
 use Rattle.paper.specs.Standing.{field_at}
 use Rattle.putting.proofs.PutLaws.{told_here, told_full, told_length, told_room}
@@ -29,7 +29,7 @@ use Rattle.cutting.specs.Cutting.{FieldsReady, fields_cut, empties}
 -- An empty place in front of others or behind them.
 alike : (columns : SchemaFields) → frame 0x50 [] ++ empties columns ≡ empties columns ++ frame 0x50 []
 unfolding empties
-alike no_columns = append-nil (frame 0x50 [])
+alike none_named = append-nil (frame 0x50 [])
 alike (named name node more) =
     ap (λ (l : List ℕ). frame 0x50 [] ++ l) (alike more) ∙ sym (append_assoc (frame 0x50 []) (empties more) (frame 0x50 []))
 
@@ -59,7 +59,7 @@ module _ {schema : List ℕ} {from to : ℕ} {before out : List ℕ} {end start 
   unfolding empties
   missing_done over levels columns stand =
       let left = seen.left levels columns stand in
-      let none : left.more ≡ no_columns = no_field left.stand over in
+      let none : left.more ≡ none_named = no_field left.stand over in
       let same : empties columns ≡ left.written = left.all ∙ ap (λ (l : SchemaFields). empties l ++ left.written) none in
       rw same (put start (omega arith) left.ends)
 
@@ -117,7 +117,7 @@ module _ {schema : List ℕ} {from to : ℕ} {before out : List ℕ} {end start 
 
 nothing_cut : (names : Dictionary) (columns : SchemaFields) → places_bytes names (cut_fields columns no_fields) ≡ empties columns
 unfolding cut_fields cut_field field_at places_bytes place_bytes empties
-nothing_cut names no_columns = refl
+nothing_cut names none_named = refl
 nothing_cut names (named name node more) = ap (λ (l : List ℕ). frame 0x50 [] ++ l) (nothing_cut names more)
 
 module _ {levels : ℕ} {ranks schema table : List ℕ} {from to : ℕ} {s : List ℕ} {m : Members} {k notes ids : ℕ}

@@ -20,7 +20,7 @@ use Rattle.paper.proofs.WordLaws.{never, and_both}
 use Rattle.paper.specs.Meaning.{Doc, Fields, no_fields, field}
 use Rattle.paper.specs.Metadata.{Dictionary, rising}
 use Rattle.paper.specs.Normal.{id_of, field_names}
-use Rattle.paper.specs.Schemas.{SchemaFields, no_columns, named, column_names}
+use Rattle.paper.specs.Schemas.{SchemaFields, none_named, named, column_names}
 use Rattle.paper.specs.Shredding.{cut_fields}
 use Rattle.paper.specs.Standing.{field_at}
 use Rattle.paper.specs.Words.{same, among}
@@ -104,7 +104,7 @@ first_above names id name more names_rise (found _ below is) rise =
 unnamed_cut : (names : Dictionary) (bound : ℕ) (name : List ℕ) (d : Doc) (fs : Fields) → among name names ≡ true → id_of names name < bound
     → (columns : SchemaFields) → Above names bound (column_names columns) → cut_fields columns (field name d fs) ≡ cut_fields columns fs
 unfolding cut_fields field_at column_names
-unnamed_cut names bound name d fs known lower no_columns above = refl
+unnamed_cut names bound name d fs known lower none_named above = refl
 unnamed_cut names bound name d fs known lower (named first node more) above =
     let other : same name first ≡ false = go (same name first) refl in
     let behind = unnamed_cut names bound name d fs known lower more (λ c in-more in_names. above c (among_more c first (column_names more) in-more) in_names) in

@@ -13,7 +13,7 @@ use Rattle.paper.specs.Limits.{most_value}
 use Rattle.paper.specs.Meaning.{Doc, Fields}
 use Rattle.paper.specs.Metadata.{Dictionary, rising}
 use Rattle.paper.specs.Normal.{field_names, value_bytes}
-use Rattle.paper.specs.Schemas.{Schema, list, fields, SchemaFields, no_columns, named}
+use Rattle.paper.specs.Schemas.{Schema, list, fields, SchemaFields, none_named, named}
 use Rattle.paper.specs.Shredding.{cut, cut_fields, place_bytes, places_bytes}
 use Rattle.remainder.specs.Remainder.{Ground}
 use Rattle.schemas.specs.Positions.{Stands, FieldsStand}
@@ -117,5 +117,5 @@ is_member s m k Nowhere = false
 
 -- An empty place for each.
 unfoldable pub empties : SchemaFields → List ℕ
-empties no_columns = []
+empties none_named = []
 empties (named name node more) = frame 0x50 [] ++ empties more

@@ -8,7 +8,7 @@ use Rattle.fields.proofs.EntryLaws.{entered_behind}
 use Rattle.fields.proofs.SpotLaws.{Spot, spots_in, spots_of, AllTold}
 use Rattle.fields.specs.Telling.{entry_place}
 use Rattle.paper.specs.Metadata.{Dictionary}
-use Rattle.paper.specs.Schemas.{Schema, leftover_only, column, list, fields, SchemaFields, no_columns, named}
+use Rattle.paper.specs.Schemas.{Schema, leftover_only, column, list, fields, SchemaFields, none_named, named}
 use Rattle.schemas.proofs.FieldsStandLaws.{field_stands}
 use Rattle.schemas.proofs.StandingLaws.{list_stands, object_stands}
 use Rattle.schemas.specs.Frames.{frame_end}
@@ -47,7 +47,7 @@ module _ (s : List ℕ) where
         fields_apart columns (levels - 1) (place + 3) (frame_end s place) (object_stands stands).inside
 
     pub fields_apart : (columns : SchemaFields) (levels place to : ℕ) → FieldsStand levels s place to columns → Apart place to (spots_of s columns place)
-    fields_apart no_columns levels place to stand = no_spot stand.ordered
+    fields_apart none_named levels place to stand = no_spot stand.ordered
     fields_apart (named name node more) levels place to stand =
         let here = field_stands stand in
         let inner : Apart (field_node s place + 3) (frame_end s place) (spots_in s node (field_node s place)) =

@@ -6,7 +6,7 @@ use native.Mathlib.Omega.{arith}
 use lib.ListN.{length}
 use Rattle.fields.proofs.SpotLaws.{Spot, spots_in, spots_of}
 use Rattle.fields.proofs.TellingLaws.{field_room}
-use Rattle.paper.specs.Schemas.{Schema, leftover_only, column, list, fields, SchemaFields, no_columns, named}
+use Rattle.paper.specs.Schemas.{Schema, leftover_only, column, list, fields, SchemaFields, none_named, named}
 use Rattle.paper.specs.Words.{at}
 use Rattle.schemas.proofs.FieldsStandLaws.{field_stands, no_columns_lem}
 use Rattle.schemas.proofs.StandingLaws.{leftover_stands, column_stands, list_stands, object_stands}
@@ -96,6 +96,6 @@ pub next : {s : List ℕ} {place : ℕ} {left : List Spot} → Left s place left
 unfolding spots_of
 next (over past none_left) = at_end past none_left
 next (node_left levels node more stands e rest) = at_node (node_next more rest node stands e)
-next {s} {place} {left} (fields_left levels no_columns to more stand e rest) =
+next {s} {place} {left} (fields_left levels none_named to more stand e rest) =
     subst (λ (p : ℕ). Next s p left) (sym (no_columns_lem stand)) (subst (λ (l : List Spot). Next s to l) (sym e) (next rest))
 next (fields_left levels (named name node columns) to more stand e rest) = at_field (field_next more stand e rest)

@@ -5,7 +5,7 @@ use Prim.Native.Nat.{ℕ, ◌+◌}
 use Rattle.fields.specs.Telling.{looked_at, Told, leftover_told, column_told, list_told, object_told, FieldsTold, none_told, field_told}
 use Rattle.lookup.specs.Looking.{Tells}
 use Rattle.paper.specs.Metadata.{Dictionary}
-use Rattle.paper.specs.Schemas.{Schema, leftover_only, column, list, fields, SchemaFields, no_columns, named}
+use Rattle.paper.specs.Schemas.{Schema, leftover_only, column, list, fields, SchemaFields, none_named, named}
 use Rattle.schemas.specs.Frames.{frame_end}
 use Rattle.schemas.specs.Positions.{field_node}
 
@@ -22,7 +22,7 @@ unfoldable mutual
   spots_in s (fields columns) place = spots_of s columns (place + 3)
 
   pub spots_of : (schema : List ℕ) → SchemaFields → (place : ℕ) → List Spot
-  spots_of s no_columns place = []
+  spots_of s none_named place = []
   spots_of s (named name node more) place =
       record { place = place; name = name } ∷ (spots_in s node (field_node s place) ++ spots_of s more (frame_end s place))
 
@@ -51,7 +51,7 @@ module _ (names : Dictionary) (table : List ℕ) where
     told_in s (fields columns) place told = object_told (told_of s columns (place + 3) told)
 
     pub told_of : (s : List ℕ) (columns : SchemaFields) (place : ℕ) → AllTold (spots_of s columns place) → FieldsTold names s table columns place
-    told_of s no_columns place told = none_told
+    told_of s none_named place told = none_told
     told_of s (named name node more) place told =
         let parts = told_both (spots_in s node (field_node s place)) (spots_of s more (frame_end s place)) told.1 in
         field_told told.0 (told_in s node (field_node s place) parts.0) (told_of s more (frame_end s place) parts.1)

@@ -4,7 +4,7 @@ use Rattle.lookup.specs.Looking.{Tells}
 use Rattle.lookup.specs.declared.Looked.{Looked}
 use Rattle.lookup.specs.declared.Looked.TheVariants.{At, Nowhere}
 use Rattle.paper.specs.Metadata.{Dictionary}
-use Rattle.paper.specs.Schemas.{Column, Schema, leftover_only, column, list, fields, SchemaFields, no_columns, named}
+use Rattle.paper.specs.Schemas.{Column, Schema, leftover_only, column, list, fields, SchemaFields, none_named, named}
 use Rattle.schemas.specs.Frames.{frame_end}
 use Rattle.schemas.specs.Positions.{field_node}
 
@@ -47,7 +47,7 @@ mutual
 
   -- Of each of some fields: its name by its entry, its node behind its name, the next field behind both.
   pub data FieldsTold (names : Dictionary) (schema table : List ℕ) : SchemaFields → (place : ℕ) → Type 0 where
-    none_told : {place : ℕ} → FieldsTold names schema table no_columns place
+    none_told : {place : ℕ} → FieldsTold names schema table none_named place
     field_told : {name : List ℕ} {node : Schema} {more : SchemaFields} {place : ℕ} → Tells names name (looked_at table place)
         → Told names schema table node (field_node schema place) → FieldsTold names schema table more (frame_end schema place)
         → FieldsTold names schema table (named name node more) place

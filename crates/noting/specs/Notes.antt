@@ -4,7 +4,7 @@ use Rattle.fields.specs.Telling.{looked_at}
 use Rattle.lookup.specs.declared.Looked.{Looked}
 use Rattle.lookup.specs.declared.Looked.TheVariants.{At, Nowhere}
 use Rattle.paper.specs.Framing.{Piece}
-use Rattle.paper.specs.Schemas.{SchemaFields, no_columns, named}
+use Rattle.paper.specs.Schemas.{SchemaFields, none_named, named}
 use Rattle.paper.specs.Words.{numbers}
 use Rattle.rebuilt.specs.Members.{merged_by}
 use Rattle.schemas.specs.Frames.{frame_end}
@@ -47,7 +47,7 @@ add_note (b ∷ bs) Nowhere place field notes = notes
 
 -- Fields that stand from a position on, their places from a place on.
 unfoldable pub field_notes : SchemaFields → (schema table : List ℕ) → (field place : ℕ) → List Piece → List Note
-field_notes no_columns schema table field place pieces = []
+field_notes none_named schema table field place pieces = []
 field_notes (named name node columns) schema table field place [] = []
 field_notes (named name node columns) schema table field place (piece ∷ pieces) =
     add_note piece.body (looked_at table field) place field

@@ -5,7 +5,7 @@ use Rattle.order.specs.declared.Order.{Order}
 use Rattle.order.specs.declared.Order.TheVariants.{Less, Equal, Greater}
 use Rattle.order.specs.Before.{order_of}
 use Rattle.paper.specs.Meaning.{Doc, null, scalar, array, object, Docs, no_docs, doc, Fields, no_fields, field}
-use Rattle.paper.specs.Schemas.{Schema, leftover_only, column, list, fields, SchemaFields, no_columns, named}
+use Rattle.paper.specs.Schemas.{Schema, leftover_only, column, list, fields, SchemaFields, none_named, named}
 use Rattle.paper.specs.Rows.{Place, empty, leftover, typed, both, Typed, cell, inner, Places, no_places, place, Row}
 
 -- ---- an object's typed and leftover fields together, names rising
@@ -75,7 +75,7 @@ unfoldable mutual
 
   -- An object's fields. (A row that parsed has as many places as the node has fields.)
   pub fields_meaning : SchemaFields → Places → Fields
-  fields_meaning no_columns ps = no_fields
+  fields_meaning none_named ps = no_fields
   fields_meaning (named name node columns) no_places = no_fields
   fields_meaning (named name node columns) (place p ps) = add_field name (place_meaning node p) (fields_meaning columns ps)
 

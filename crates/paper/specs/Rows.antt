@@ -7,7 +7,7 @@ use Rattle.paper.specs.Metadata.{Dictionary, dictionary_of}
 use Rattle.paper.specs.Meaning.{Scalar, Doc}
 use Rattle.paper.specs.Values.{meaning_of}
 use Rattle.paper.specs.Framing.{Piece, pieces_of}
-use Rattle.paper.specs.Schemas.{Column, Schema, leftover_only, column, list, fields, SchemaFields, no_columns, named}
+use Rattle.paper.specs.Schemas.{Column, Schema, leftover_only, column, list, fields, SchemaFields, none_named, named}
 use Rattle.paper.specs.Cells.{cell_meaning}
 
 -- A place holds at most one `41` (leftover) and then at most one `42` (typed). Typed is a cell of a column, or inner
@@ -82,8 +82,8 @@ unfoldable mutual
 
   -- An object's places, one for each schema field in schema order.
   pub field_places : SchemaFields → (levels : ℕ) → Dictionary → List Piece → Option Places
-  field_places no_columns levels names [] = some no_places
-  field_places no_columns levels names (piece ∷ more) = none
+  field_places none_named levels names [] = some no_places
+  field_places none_named levels names (piece ∷ more) = none
   field_places (named name node columns) levels names [] = none
   field_places (named name node columns) levels names (piece ∷ more) =
       and_then (place_under node levels names piece) λ p.

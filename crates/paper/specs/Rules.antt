@@ -3,7 +3,7 @@ use Rattle.std.specs.Prelude.{Bool, true, false, not, ◌&&◌, ◌||◌, List, 
 use Rattle.paper.specs.Words.{among}
 use Rattle.paper.specs.Metadata.{Dictionary}
 use Rattle.paper.specs.Meaning.{Doc, null, scalar, array, object, Fields, no_fields, field}
-use Rattle.paper.specs.Schemas.{Schema, leftover_only, column, list, fields, SchemaFields, no_columns, named, column_names}
+use Rattle.paper.specs.Schemas.{Schema, leftover_only, column, list, fields, SchemaFields, none_named, named, column_names}
 use Rattle.paper.specs.Rows.{Place, empty, leftover, typed, both, Typed, cell, inner, Places, no_places, place, Row}
 
 -- ---- what the rules speak of
@@ -134,7 +134,7 @@ unfoldable mutual
 
   -- An object's. (A row that parsed has as many places as the node has fields.)
   pub fields_lawful : SchemaFields → Dictionary → Places → Bool
-  fields_lawful no_columns names ps = true
+  fields_lawful none_named names ps = true
   fields_lawful (named name node columns) names no_places = true
   fields_lawful (named name node columns) names (place p ps) =
       (not (breaks_f names name p) && place_lawful node names p) && fields_lawful columns names ps

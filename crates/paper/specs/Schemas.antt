@@ -19,11 +19,11 @@ mutual
     fields : SchemaFields → Schema
 
   pub data SchemaFields : Type 0 where
-    no_columns : SchemaFields
+    none_named : SchemaFields
     named : (name : List ℕ) → Schema → SchemaFields → SchemaFields
 
 unfoldable pub column_names : SchemaFields → List (List ℕ)
-column_names no_columns = []
+column_names none_named = []
 column_names (named name node more) = name ∷ column_names more
 
 -- A type code from 1, 3-7, 11-20 (1 is boolean).
@@ -52,7 +52,7 @@ field_parts inner (name ∷ node ∷ []) more =
 field_parts inner (name ∷ node ∷ other ∷ rest) more = none
 
 unfoldable pub field_nodes : (Piece → Option Schema) → List Piece → Option SchemaFields
-field_nodes inner [] = some no_columns
+field_nodes inner [] = some none_named
 field_nodes inner (piece ∷ more) =
     given (eqb piece.tag 0x31)
     (and_then (field_nodes inner more) λ columns. and_then (pieces_of piece.body) λ parts. field_parts inner parts columns)

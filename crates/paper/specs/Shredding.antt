@@ -7,7 +7,7 @@ use Rattle.paper.specs.Meaning.{Scalar, Doc, null, scalar, array, object, Docs, 
 use Rattle.paper.specs.Standing.{field_at}
 use Rattle.paper.specs.Normal.{names_used, metadata_bytes, value_bytes}
 use Rattle.paper.specs.Framing.{frame}
-use Rattle.paper.specs.Schemas.{Column, Schema, leftover_only, column, list, fields, SchemaFields, no_columns, named, column_names}
+use Rattle.paper.specs.Schemas.{Column, Schema, leftover_only, column, list, fields, SchemaFields, none_named, named, column_names}
 use Rattle.paper.specs.Cells.{takes, cell_bytes}
 use Rattle.paper.specs.Rows.{Place, empty, leftover, typed, both, Typed, cell, inner, Places, no_places, place}
 
@@ -55,7 +55,7 @@ unfoldable mutual
   cut (fields columns) (object fs) = with_rest (unnamed (column_names columns) fs) (inner (cut_fields columns fs))
 
   pub cut_fields : SchemaFields → Fields → Places
-  cut_fields no_columns fs = no_places
+  cut_fields none_named fs = no_places
   cut_fields (named name node columns) fs = place (cut_field (λ d. cut node d) (field_at name fs)) (cut_fields columns fs)
 
 -- ---- how it is written

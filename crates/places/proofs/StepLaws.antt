@@ -16,7 +16,7 @@ use Rattle.paper.specs.Meaning.{Doc}
 use Rattle.paper.specs.Metadata.{Dictionary}
 use Rattle.paper.specs.Rows.{Place, empty, leftover, typed, both, Typed, Places, no_places, leftover_meaning, place_parts, place_by, place_within, place_under, list_places, field_places}
 use Rattle.paper.specs.Rules.{has_leftover, has_typed, breaks_e, breaks_f, elements_lawful, fields_lawful, place_lawful}
-use Rattle.paper.specs.Schemas.{Schema, SchemaFields, no_columns, named}
+use Rattle.paper.specs.Schemas.{Schema, SchemaFields, none_named, named}
 use Rattle.paper.specs.Words.{at, part, given, and_then, among, is_there}
 use Rattle.frames.proofs.FrameLaws.{by_cut, by_ends, pieces_by, pieces_at, pieces_ended, frame_fits}
 use Rattle.paper.proofs.WordLaws.{never, given_some, then_some, some_there}
@@ -226,17 +226,17 @@ module _ (element : Schema) (levels : ℕ) (names : Dictionary) (s : List ℕ) w
 
 module _ (levels : ℕ) (names : Dictionary) (s : List ℕ) where
   -- no field is left: nothing may stand there
-  pub members_ended : (place : ℕ) → length s ≤ place → members_verdict no_columns levels names (drop place s) ≡ Lawful
+  pub members_ended : (place : ℕ) → length s ≤ place → members_verdict none_named levels names (drop place s) ≡ Lawful
   unfolding members_verdict and_then field_places verdict_of fields_lawful
   members_ended place h = rw (pieces_ended s place h)
 
-  pub members_more : (place : ℕ) → place < length s → members_verdict no_columns levels names (drop place s) ≡ Unparsed
+  pub members_more : (place : ℕ) → place < length s → members_verdict none_named levels names (drop place s) ≡ Unparsed
   unfolding members_verdict
   members_more place h = go (frame_end s place) refl
     where
-      go : (x : Option ℕ) → frame_end s place ≡ x → verdict_of (and_then (pieces_of (drop place s)) (field_places no_columns levels names)) (fields_lawful no_columns names) ≡ Unparsed
-      go none e = from_cut s place h (field_places no_columns levels names) (fields_lawful no_columns names) e
-      go (some end) e = from_unread s place h (field_places no_columns levels names) (fields_lawful no_columns names) end e (λ more. unfold field_places in refl)
+      go : (x : Option ℕ) → frame_end s place ≡ x → verdict_of (and_then (pieces_of (drop place s)) (field_places none_named levels names)) (fields_lawful none_named names) ≡ Unparsed
+      go none e = from_cut s place h (field_places none_named levels names) (fields_lawful none_named names) e
+      go (some end) e = from_unread s place h (field_places none_named levels names) (fields_lawful none_named names) end e (λ more. unfold field_places in refl)
 
   module _ (name : List ℕ) (node : Schema) (columns : SchemaFields) where
     -- a place is missing

@@ -10,7 +10,7 @@ use Rattle.paper.specs.Framing.{Piece, pieces_of}
 use Rattle.paper.specs.Metadata.{Dictionary}
 use Rattle.paper.specs.Rows.{Place, Typed, inner, Places, no_places, place, place_under, place_within, inner_body, list_places, field_places}
 use Rattle.paper.specs.Rules.{breaks_e, breaks_f, inner_lawful, elements_lawful, fields_lawful, place_lawful, place_lawful_by}
-use Rattle.paper.specs.Schemas.{Schema, leftover_only, column, list, fields, SchemaFields, no_columns, named}
+use Rattle.paper.specs.Schemas.{Schema, leftover_only, column, list, fields, SchemaFields, none_named, named}
 use Rattle.paper.specs.Words.{and_then}
 use Rattle.paper.proofs.WordLaws.{never}
 use Rattle.places.specs.Verdicts.{verdict_of, typed_under, typed_lawful, typed_verdict, place_verdict, elements_verdict, members_verdict, worse, broken_if}

@@ -18,7 +18,7 @@ use Rattle.paper.specs.Metadata.{Dictionary, rising}
 use Rattle.paper.specs.Rebuilding.{insert_field_by, insert_field, merge, fields_in, or_null, place_meaning_by, inner_doc, list_meaning, add_field, place_meaning, fields_meaning}
 use Rattle.paper.specs.Rows.{Place, empty, leftover, typed, both, Typed, cell, inner, Places, no_places, place}
 use Rattle.paper.specs.Rules.{has_leftover, has_typed, leftover_of, is_fields_node, named_by, any_named, has_any, breaks_a, breaks_b, breaks_c, breaks_e, elements_lawful, place_lawful}
-use Rattle.paper.specs.Schemas.{Schema, leftover_only, column, list, fields, SchemaFields, no_columns, named, column_names}
+use Rattle.paper.specs.Schemas.{Schema, leftover_only, column, list, fields, SchemaFields, none_named, named, column_names}
 use Rattle.paper.specs.Standing.{Step, by_name, by_index, field_at, element_at, step_from, stands_at}
 use Rattle.paper.specs.Words.{and_then, same, among}
 use Rattle.schemas.proofs.GoodLaws.{good_element, good_object, good_field}
@@ -60,7 +60,7 @@ merge_other names name (field own d left) others there apart = go (among own nam
 not_meant : (name : List ℕ) (columns : SchemaFields) (ps : Places) → among name (column_names columns) ≡ false
     → field_at name (fields_meaning columns ps) ≡ none
 unfolding fields_meaning column_names among field_at add_field
-not_meant name no_columns ps absent = refl
+not_meant name none_named ps absent = refl
 not_meant name (named own node columns) no_places absent = refl
 not_meant name (named own node columns) (place p ps) absent = go (same own name) refl absent (place_meaning node p) (not_meant name columns ps)
   where
@@ -74,7 +74,7 @@ not_meant name (named own node columns) (place p ps) absent = go (same own name)
 pub field_shown : (name : List ℕ) (columns : SchemaFields) (ps : Places) (stop : Stop) → rising (column_names columns) ≡ true
     → place_named name columns ps ≡ some stop → field_at name (fields_meaning columns ps) ≡ place_meaning stop.node stop.held
 unfolding place_named fields_meaning column_names field_at add_field
-field_shown name no_columns ps stop rise found = nowhere found
+field_shown name none_named ps stop rise found = nowhere found
 field_shown name (named own node columns) no_places stop rise found = nowhere found
 field_shown name (named own node columns) (place p ps) stop rise found =
     go (same own name) refl found (field_shown name columns ps stop (rising_more own (column_names columns) rise))
@@ -98,7 +98,7 @@ field_shown name (named own node columns) (place p ps) stop rise found =
 pub found_named : (name : List ℕ) (columns : SchemaFields) (ps : Places) (stop : Stop) → place_named name columns ps ≡ some stop
     → among name (column_names columns) ≡ true
 unfolding place_named column_names among
-found_named name no_columns ps stop found = nowhere found
+found_named name none_named ps stop found = nowhere found
 found_named name (named own node columns) no_places stop found = nowhere found
 found_named name (named own node columns) (place p ps) stop found = go (same own name) found (found_named name columns ps stop)
   where
@@ -134,7 +134,7 @@ element_shown means (suc index) (place p ps) q found = element_shown means index
 
 no_named : (name : List ℕ) (columns : SchemaFields) → place_named name columns no_places ≡ none
 unfolding place_named
-no_named name no_columns = refl
+no_named name none_named = refl
 no_named name (named own node columns) = refl
 
 unnamed_beside : (columns : SchemaFields) (d : Doc) → has_any (column_names columns) d ≡ false → any_named (column_names columns) (fields_in d) ≡ false

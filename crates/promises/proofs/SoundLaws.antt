@@ -29,7 +29,7 @@ use Rattle.paper.specs.Normal.{insert_by, insert_name, field_names}
 use Rattle.paper.specs.Rebuilding.{insert_field_by, insert_field, merge, fields_in, or_null, place_meaning_by, cell_doc, inner_doc, list_meaning, add_field, place_meaning, fields_meaning}
 use Rattle.paper.specs.Rows.{Place, empty, leftover, typed, both, Typed, inner, Places, no_places, place, leftover_meaning, no_body, cell_body, inner_body, list_places, place_under, field_places}
 use Rattle.paper.specs.Rules.{has_leftover, has_typed, breaks_e, breaks_f, inner_lawful, elements_lawful, place_lawful, fields_lawful}
-use Rattle.paper.specs.Schemas.{Column, Schema, leftover_only, column, list, fields, SchemaFields, no_columns, named, column_names, column_code}
+use Rattle.paper.specs.Schemas.{Column, Schema, leftover_only, column, list, fields, SchemaFields, none_named, named, column_names, column_code}
 use Rattle.paper.specs.Words.{at, same, among}
 use Rattle.places.specs.declared.parts.Parts.{Parts}
 use Rattle.places.specs.Verdicts.{typed_under, typed_lawful}
@@ -62,7 +62,7 @@ merge_rises (field name d left) others rise =
 
 meant_rises : (columns : SchemaFields) (ps : Places) → rising (column_names columns) ≡ true → rising (field_names (fields_meaning columns ps)) ≡ true
 unfolding fields_meaning column_names add_field field_names rising
-meant_rises no_columns ps rise = refl
+meant_rises none_named ps rise = refl
 meant_rises (named name node columns) no_places rise = refl
 meant_rises (named name node columns) (place p ps) rise =
     go (place_meaning node p) (meant_rises columns ps (rising_more name (column_names columns) rise))
@@ -351,7 +351,7 @@ module _ (names : Dictionary) where
 
     fields_sound : (columns : SchemaFields) (levels : ℕ) → good_fields columns levels ≡ true → (pieces : List Piece) (ps : Places)
         → field_places columns levels names pieces ≡ some ps → fields_lawful columns names ps ≡ true → SoundFields levels (fields_meaning columns ps)
-    fields_sound no_columns levels good pieces ps e keeps = none_sound levels
+    fields_sound none_named levels good pieces ps e keeps = none_sound levels
     fields_sound (named name node columns) levels good [] ps e keeps = nowhere e
     fields_sound (named name node columns) levels good (piece ∷ pieces) no_places e keeps = none_sound levels
     fields_sound (named name node columns) levels good (piece ∷ pieces) (place p ps) e keeps =

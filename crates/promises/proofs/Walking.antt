@@ -11,7 +11,7 @@ use Rattle.paper.specs.Limits.{most_levels}
 use Rattle.paper.specs.Metadata.{rising}
 use Rattle.paper.specs.Rows.{Place, empty, leftover, typed, both, cell, inner, Places, no_places, place}
 use Rattle.paper.specs.Rules.{inside_lawful, inner_lawful}
-use Rattle.paper.specs.Schemas.{Schema, leftover_only, column, list, fields, SchemaFields, no_columns, named, column_names}
+use Rattle.paper.specs.Schemas.{Schema, leftover_only, column, list, fields, SchemaFields, none_named, named, column_names}
 use Rattle.paper.specs.Standing.{Step, by_name, by_index}
 use Rattle.paper.specs.Words.{and_then, same, among}
 use Rattle.schemas.proofs.GoodLaws.{good_element, good_object, good_field, schema_good}
@@ -85,7 +85,7 @@ module _ (test : Schema → Place → Bool) where
 
     reached_fields : (columns : SchemaFields) (levels : ℕ) → good_fields columns levels ≡ true → rising (column_names columns) ≡ true → (ps : Places)
         → AlongFields columns ps → every_field test columns ps ≡ true
-    reached_fields no_columns levels good rise ps along = refl
+    reached_fields none_named levels good rise ps along = refl
     reached_fields (named name node columns) levels good rise no_places along = refl
     reached_fields (named name node columns) levels good rise (place p ps) along =
         let goods = good_field name node columns levels good in

@@ -10,7 +10,7 @@ use Rattle.paper.proofs.WordLaws.{never, some_there, then_some, and_both}
 use Rattle.paper.specs.Metadata.{Dictionary}
 use Rattle.paper.specs.Rows.{Place, empty, leftover, typed, both, Typed, cell, inner, Places, no_places, place}
 use Rattle.paper.specs.Rules.{breaks_a, breaks_b, breaks_c, breaks_d, breaks_e, breaks_f, inside_lawful, inner_lawful, place_lawful_by, elements_lawful, place_lawful, fields_lawful}
-use Rattle.paper.specs.Schemas.{Schema, leftover_only, column, list, fields, SchemaFields, no_columns, named}
+use Rattle.paper.specs.Schemas.{Schema, leftover_only, column, list, fields, SchemaFields, none_named, named}
 use Rattle.paper.specs.Standing.{Step, by_name, by_index}
 use Rattle.paper.specs.Words.{is_there, same}
 use Rattle.written.specs.Everywhere.{every_element, everywhere, every_field}
@@ -56,7 +56,7 @@ module _ (All : SchemaFields → Places → Type 0) (One : Schema → Place → 
   pub field_holds : (name : List ℕ) (columns : SchemaFields) (ps : Places) (stop : Stop) → All columns ps → place_named name columns ps ≡ some stop
       → One stop.node stop.held
   unfolding place_named
-  field_holds name no_columns ps stop all found = nowhere found
+  field_holds name none_named ps stop all found = nowhere found
   field_holds name (named own node columns) no_places stop all found = nowhere found
   field_holds name (named own node columns) (place p ps) stop all found =
       let parts = each own node columns p ps all in go (same own name) found parts.0 (field_holds name columns ps stop parts.1)
@@ -81,7 +81,7 @@ inside_inner All none_there (both d (inner ps)) holds = holds
 module _ (test : Schema → Place → Bool) where
   no_field : (columns : SchemaFields) → every_field test columns no_places ≡ true
   unfolding every_field
-  no_field no_columns = refl
+  no_field none_named = refl
   no_field (named name node columns) = refl
 
   everywhere_step : (node : Schema) (p : Place) (step : Step) (next : Stop) → everywhere test node p ≡ true → step_to node p step ≡ some next
@@ -130,7 +130,7 @@ own_kept node inside p lawful =
 module _ (names : Dictionary) where
   no_place : (columns : SchemaFields) → fields_lawful columns names no_places ≡ true
   unfolding fields_lawful
-  no_place no_columns = refl
+  no_place none_named = refl
   no_place (named name node columns) = refl
 
   pub elements_lawful_lem : (element : Schema) (p : Place) → place_lawful (list element) names p ≡ true

@@ -2,7 +2,7 @@
 use Rattle.std.specs.Prelude.{Bool, true, cond, List, [], ◌∷◌, ◌≡◌, ℕ, zero, suc}
 use Rattle.std.proofs.Math.Option.{Option, none, some}
 use Rattle.paper.specs.Rows.{Place, empty, leftover, typed, both, Typed, cell, inner, Places, no_places, place}
-use Rattle.paper.specs.Schemas.{Schema, leftover_only, column, list, fields, SchemaFields, no_columns, named, schema_of}
+use Rattle.paper.specs.Schemas.{Schema, leftover_only, column, list, fields, SchemaFields, none_named, named, schema_of}
 use Rattle.paper.specs.Standing.{Step, by_name, by_index}
 use Rattle.paper.specs.Words.{same, and_then}
 use Rattle.written.specs.Everywhere.{everywhere}
@@ -31,7 +31,7 @@ place_number (suc index) (place p ps) = place_number index ps
 
 -- An object's place of a name, with its node.
 unfoldable pub place_named : (name : List ℕ) → SchemaFields → Places → Option Stop
-place_named name no_columns ps = none
+place_named name none_named ps = none
 place_named name (named own node columns) no_places = none
 place_named name (named own node columns) (place p ps) =
     cond (same own name) (some (record { node = node; held = p })) (place_named name columns ps)

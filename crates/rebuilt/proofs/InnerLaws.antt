@@ -21,7 +21,7 @@ use Rattle.lookup.specs.declared.Looked.{Looked}
 use Rattle.paper.proofs.WordLaws.{never, given_some}
 use Rattle.paper.specs.Framing.{Piece, pieces_of}
 use Rattle.paper.specs.Metadata.{Dictionary}
-use Rattle.paper.specs.Schemas.{SchemaFields, no_columns}
+use Rattle.paper.specs.Schemas.{SchemaFields, none_named}
 use Rattle.paper.specs.Words.{at, part, among, and_then, is_there}
 use Rattle.places.proofs.StepLaws.{place_cut, place_ends, place_fits, elements_cut, elements_next, members_more, members_few, members_cut, members_next}
 use Rattle.places.specs.Frames.{place_end, place_frame}
@@ -119,7 +119,7 @@ module _ {levels : ℕ} {names : Dictionary} {schema table : List ℕ} {field to
   lawful_are e = ap (λ (c : SchemaFields). members_verdict c levels names (drop place body)) (sym e) ∙ there.lawful
 
   module _ (over : to ≤ field) where
-    pub members_none : there.columns ≡ no_columns
+    pub members_none : there.columns ≡ none_named
     members_none = no_field there.stand over
 
     pub members_over : length body ≤ place

@@ -17,7 +17,7 @@ use Rattle.paper.specs.Normal.{value_bytes}
 use Rattle.paper.specs.Rebuilding.{place_meaning_by, or_null, add_field, place_meaning, fields_meaning}
 use Rattle.paper.specs.Rows.{Place, Places, place, leftover_meaning, place_under, field_places}
 use Rattle.paper.specs.Rules.{breaks_f, place_lawful, fields_lawful}
-use Rattle.paper.specs.Schemas.{Schema, SchemaFields, no_columns, named}
+use Rattle.paper.specs.Schemas.{Schema, SchemaFields, none_named, named}
 use Rattle.paper.specs.Words.{is_there, among}
 use Rattle.places.specs.Parts.{parts_of}
 use Rattle.places.specs.Verdicts.{typed_under}
@@ -66,7 +66,7 @@ module _ (names normal : Dictionary) (ranks : List ℕ) where
   member_added bytes ids (missing nowhere) (present there) is numbered are = never (sym there ∙ nowhere)
 
   module _ (schema table : List ℕ) (levels field : ℕ) where
-    pub no_members : MembersAre names normal ranks schema table no_columns levels field
+    pub no_members : MembersAre names normal ranks schema table none_named levels field
     unfolding member_places fields_meaning
     no_members pieces ps here = none_are
 

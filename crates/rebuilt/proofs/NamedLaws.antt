@@ -11,7 +11,7 @@ use Rattle.paper.specs.Normal.{field_names}
 use Rattle.paper.specs.Rebuilding.{add_field, place_meaning, fields_meaning}
 use Rattle.paper.specs.Rows.{Places, no_places, place}
 use Rattle.paper.specs.Rules.{any_named}
-use Rattle.paper.specs.Schemas.{SchemaFields, no_columns, named, column_names}
+use Rattle.paper.specs.Schemas.{SchemaFields, none_named, named, column_names}
 use Rattle.paper.specs.Words.{same, among}
 
 or_fewer : (a b c : Bool) → (b ≡ true → c ≡ true) → a || b ≡ true → a || c ≡ true
@@ -21,7 +21,7 @@ or_fewer false b c fewer e = fewer e
 pub meant_named : (columns : SchemaFields) (ps : Places) (name : List ℕ)
     → among name (field_names (fields_meaning columns ps)) ≡ true → among name (column_names columns) ≡ true
 unfolding fields_meaning add_field field_names column_names among
-meant_named no_columns ps name e = e
+meant_named none_named ps name e = e
 meant_named (named first node columns) no_places name e = never (sym e)
 meant_named (named first node columns) (place p ps) name e = go (place_meaning node p) e (meant_named columns ps name)
   where

@@ -20,7 +20,7 @@ use Rattle.paper.specs.Normal.{value_bytes}
 use Rattle.paper.specs.Rebuilding.{merge, fields_in, or_null, place_meaning_by}
 use Rattle.paper.specs.Rows.{Place, leftover_meaning, place_under}
 use Rattle.paper.specs.Rules.{place_lawful}
-use Rattle.paper.specs.Schemas.{Schema, leftover_only, column, list, fields, SchemaFields, no_columns, named}
+use Rattle.paper.specs.Schemas.{Schema, leftover_only, column, list, fields, SchemaFields, none_named, named}
 use Rattle.paper.specs.Values.{meaning_of}
 use Rattle.paper.specs.Words.{part, and_then}
 use Rattle.places.specs.Parts.{parts_of}
@@ -113,7 +113,7 @@ module _ (names normal : Dictionary) (ranks schema table : List ℕ) where
 
       members_are : (columns : SchemaFields) (levels field : ℕ) → FieldsTold names schema table columns field
           → MembersAre names normal ranks schema table columns levels field
-      members_are no_columns levels field told = no_members names normal ranks schema table levels field
+      members_are none_named levels field told = no_members names normal ranks schema table levels field
       members_are (named name node columns) levels field told =
           let first = field_told_lem told in
           more_members names normal ranks schema table levels field name node columns first.here

@@ -16,7 +16,7 @@ use Rattle.paper.specs.Normal.{names_used}
 use Rattle.paper.specs.Rebuilding.{or_null, place_meaning_by, cell_doc, inner_doc, place_meaning, fields_meaning}
 use Rattle.paper.specs.Rows.{Place, empty, leftover, typed, both, Typed, cell, inner, Places, place, place_under, place_within, place_by, inner_body, list_places, field_places}
 use Rattle.paper.specs.Rules.{has_leftover, has_typed, breaks_f, inner_lawful, place_lawful, fields_lawful}
-use Rattle.paper.specs.Schemas.{Schema, leftover_only, column, list, fields, SchemaFields, no_columns, named}
+use Rattle.paper.specs.Schemas.{Schema, leftover_only, column, list, fields, SchemaFields, none_named, named}
 use Rattle.paper.specs.Values.{names_at}
 use Rattle.paper.specs.Words.{given, and_then, among, all_below, is_there}
 use Rattle.places.specs.Verdicts.{verdict_of, typed_under, typed_lawful, place_verdict}
@@ -108,7 +108,7 @@ object_uses columns levels names schema table node all s t e lawful =
     let read = inner_read (field_places columns (levels - 1) names) s t e in
     rw (← read.2) (all (pieces_in s) read.0 read.1 (rw (← read.2) at lawful))
 
-members_none : (levels : ℕ) (names : Dictionary) (schema table : List ℕ) (field : ℕ) → MembersUse no_columns levels names schema table field
+members_none : (levels : ℕ) (names : Dictionary) (schema table : List ℕ) (field : ℕ) → MembersUse none_named levels names schema table field
 unfolding member_ids fields_meaning used_in
 members_none levels names schema table field pieces ps e lawful = uses_none
 
@@ -150,7 +150,7 @@ mutual
 
   members_use : (columns : SchemaFields) (levels : ℕ) (names : Dictionary) (schema table : List ℕ) (field : ℕ) → FieldsTold names schema table columns field
       → MembersUse columns levels names schema table field
-  members_use no_columns levels names schema table field tells = members_none levels names schema table field
+  members_use none_named levels names schema table field tells = members_none levels names schema table field
   members_use (named name node columns) levels names schema table field tells =
       let first = field_told_lem tells in
       members_next name node columns levels names schema table field first.here

@@ -8,7 +8,7 @@ use Rattle.lookup.specs.declared.Looked.{Looked}
 use Rattle.lookup.specs.declared.Looked.TheVariants.{At, Nowhere}
 use Rattle.paper.specs.Framing.{Piece, pieces_of}
 use Rattle.paper.specs.Normal.{text_bytes, prefixed_bytes, array_bytes}
-use Rattle.paper.specs.Schemas.{Schema, leftover_only, column, list, fields, SchemaFields, no_columns, named}
+use Rattle.paper.specs.Schemas.{Schema, leftover_only, column, list, fields, SchemaFields, none_named, named}
 use Rattle.paper.specs.Words.{at, part}
 use Rattle.places.specs.Parts.{parts_of}
 use Rattle.places.specs.declared.parts.Parts.{Parts}
@@ -66,7 +66,7 @@ unfoldable mutual
 
   -- An object's places that are present, under fields that stand from a position on.
   pub member_places : SchemaFields → (levels : ℕ) → (ranks schema table : List ℕ) → (field : ℕ) → List Piece → List Member
-  member_places no_columns levels ranks schema table field pieces = []
+  member_places none_named levels ranks schema table field pieces = []
   member_places (named name node columns) levels ranks schema table field [] = []
   member_places (named name node columns) levels ranks schema table field (piece ∷ pieces) =
       add_member piece.body (looked_at table field)

@@ -5,7 +5,7 @@ use Rattle.lookup.specs.declared.Looked.{Looked}
 use Rattle.lookup.specs.declared.Looked.TheVariants.{At, Nowhere}
 use Rattle.marking.specs.Ids.{ids_in}
 use Rattle.paper.specs.Framing.{Piece}
-use Rattle.paper.specs.Schemas.{Schema, leftover_only, column, list, fields, SchemaFields, no_columns, named}
+use Rattle.paper.specs.Schemas.{Schema, leftover_only, column, list, fields, SchemaFields, none_named, named}
 use Rattle.paper.specs.Words.{joined}
 use Rattle.places.specs.Parts.{parts_of}
 use Rattle.schemas.specs.Frames.{frame_end}
@@ -36,7 +36,7 @@ unfoldable mutual
 
   -- Of an object's places, under fields that stand from a position on.
   pub member_ids : SchemaFields → (levels : ℕ) → (schema table : List ℕ) → (field : ℕ) → List Piece → List ℕ
-  member_ids no_columns levels schema table field pieces = []
+  member_ids none_named levels schema table field pieces = []
   member_ids (named name node columns) levels schema table field [] = []
   member_ids (named name node columns) levels schema table field (piece ∷ pieces) =
       add_id piece.body (looked_at table field)

@@ -25,7 +25,7 @@ use Rattle.paper.specs.Meaning.{Scalar}
 use Rattle.paper.specs.Metadata.{Dictionary, names_in}
 use Rattle.paper.specs.Rows.{cell, no_body, cell_body}
 use Rattle.paper.specs.Rules.{cell_lawful}
-use Rattle.paper.specs.Schemas.{Column, Schema, leftover_only, column, list, fields, SchemaFields, no_columns, named, column_code}
+use Rattle.paper.specs.Schemas.{Column, Schema, leftover_only, column, list, fields, SchemaFields, none_named, named, column_code}
 use Rattle.paper.specs.Words.{part, among, and_then, is_there}
 use Rattle.schemas.specs.Frames.{frame_end}
 use Rattle.schemas.specs.Kinds.{kind_at, KindThere}

@@ -10,7 +10,7 @@ use lib.Dec.{leb}
 use lib.ListN.{length, length-append}
 use Rattle.paper.specs.Framing.{Piece, pieces_within, pieces_of, only, one_piece, frame}
 use Rattle.paper.specs.Limits.{most_levels}
-use Rattle.paper.specs.Schemas.{Schema, leftover_only, column, list, fields, SchemaFields, no_columns, named, column_of, node_tag, field_parts, field_nodes, node_by, node_of, schema_of}
+use Rattle.paper.specs.Schemas.{Schema, leftover_only, column, list, fields, SchemaFields, none_named, named, column_of, node_tag, field_parts, field_nodes, node_by, node_of, schema_of}
 use Rattle.paper.specs.Words.{given, and_then}
 use Rattle.paper.proofs.WordLaws.{never}
 use Rattle.frames.proofs.BackLaws.{length_frame, pieces_frame, frame_alone}
@@ -29,7 +29,7 @@ node_piece (list element) = record { tag = 0x20; body = schema_bytes element }
 node_piece (fields columns) = record { tag = 0x30; body = fields_bytes columns }
 
 field_pieces : SchemaFields → List Piece
-field_pieces no_columns = []
+field_pieces none_named = []
 field_pieces (named name node more) = record { tag = 0x31; body = frame 0x32 name ++ schema_bytes node } ∷ field_pieces more
 
 node_piece_lem : (node : Schema) → frame (node_piece node).tag (node_piece node).body ≡ schema_bytes node
@@ -58,14 +58,14 @@ body_length name node = omega (arith, length-append (frame 0x32 name) (schema_by
 
 fields_pieces : (columns : SchemaFields) → length (fields_bytes columns) < 65536 → pieces_of (fields_bytes columns) ≡ some (field_pieces columns)
 unfolding field_pieces schema_bytes pieces_of pieces_within piece_then and_then
-fields_pieces no_columns h = refl
+fields_pieces none_named h = refl
 fields_pieces (named name node more) h =
     let long = field_length name node more in
     rw (pieces_frame 0x31 (frame 0x32 name ++ schema_bytes node) (fields_bytes more) (omega (arith, body_length name node)), fields_pieces more (omega arith))
 
 some_pieces : (columns : SchemaFields) → some_field columns ≡ true → leb 1 (length (field_pieces columns)) ≡ true
 unfolding some_field field_pieces
-some_pieces no_columns e = never (sym e)
+some_pieces none_named e = never (sym e)
 some_pieces (named name node more) e = le-leb 1 (suc (length (field_pieces more))) (omega arith)
 
 -- A good node by its piece.
@@ -89,7 +89,7 @@ mutual
 
   fields_back : (columns : SchemaFields) (levels : ℕ) → good_fields columns levels ≡ true → length (fields_bytes columns) < 65536
       → field_nodes (node_of levels) (field_pieces columns) ≡ some columns
-  fields_back no_columns levels good fits = refl
+  fields_back none_named levels good fits = refl
   fields_back (named name node more) levels good fits =
       let each = good_field name node more levels good in
       let long = field_length name node more in

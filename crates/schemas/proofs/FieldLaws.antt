@@ -9,7 +9,7 @@ use borrow.Author.Tests.{lt-leb, leb-true, leb-false}
 use lib.Dec.{leb, eqb}
 use lib.ListN.{length}
 use Rattle.paper.specs.Framing.{Piece, pieces_of, only, one_piece}
-use Rattle.paper.specs.Schemas.{Schema, SchemaFields, no_columns, named, field_parts, field_nodes, node_of}
+use Rattle.paper.specs.Schemas.{Schema, SchemaFields, none_named, named, field_parts, field_nodes, node_of}
 use Rattle.paper.specs.Words.{at, part, given, and_then}
 use Rattle.schemas.proofs.FrameLaws.{tagged_ends}
 use Rattle.frames.proofs.PieceLaws.{piece_then, pieces_none}
@@ -90,6 +90,6 @@ module _ (levels : ℕ) (s : List ℕ) (place to : ℕ) (more : place < to) (wit
       go false e = refl
       go true e = inside (tagged_ends s place to 0x31 e) (columns_in levels s (frame_end s place) to)
 
-pub columns_ended : (levels : ℕ) (s : List ℕ) (place to : ℕ) → to ≤ place → columns_in levels s place to ≡ some no_columns
+pub columns_ended : (levels : ℕ) (s : List ℕ) (place to : ℕ) → to ≤ place → columns_in levels s place to ≡ some none_named
 unfolding columns_in and_then field_nodes
 columns_ended levels s place to h = rw (pieces_none s place to h)

@@ -10,7 +10,7 @@ use borrow.Author.Tests.{leb-true, leb-false}
 use lib.Dec.{leb}
 use lib.ListN.{length}
 use Rattle.paper.specs.Metadata.{rising}
-use Rattle.paper.specs.Schemas.{Schema, SchemaFields, no_columns, named, column_names}
+use Rattle.paper.specs.Schemas.{Schema, SchemaFields, none_named, named, column_names}
 use Rattle.paper.specs.Words.{at, and_then}
 use Rattle.paper.proofs.WordLaws.{given_some, then_some}
 use Rattle.names.proofs.RisingLaws.{rising_more}
@@ -39,9 +39,9 @@ pub record FirstField (levels : ℕ) (s : List ℕ) (place to : ℕ) (columns : 
   pub stands : FieldStands levels s place to name node more
 
 module _ {levels : ℕ} {s : List ℕ} {place to : ℕ} where
-  pub no_field : {columns : SchemaFields} → FieldsStand levels s place to columns → to ≤ place → columns ≡ no_columns
+  pub no_field : {columns : SchemaFields} → FieldsStand levels s place to columns → to ≤ place → columns ≡ none_named
   no_field stand past =
-      let none_left : columns_in levels s place to ≡ some no_columns = columns_ended levels s place to past in
+      let none_left : columns_in levels s place to ≡ some none_named = columns_ended levels s place to past in
       let are = stand.are in
       cc
 
@@ -81,7 +81,7 @@ module _ {levels : ℕ} {s : List ℕ} {place to : ℕ} where
       }
 
   -- No fields are none at all, and a field is one at least.
-  pub no_columns_lem : FieldsStand levels s place to no_columns → place ≡ to
+  pub no_columns_lem : FieldsStand levels s place to none_named → place ≡ to
   no_columns_lem stand = go (leb to place) refl
     where
       go : (b : Bool) → leb to place ≡ b → place ≡ to

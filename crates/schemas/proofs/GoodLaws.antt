@@ -8,7 +8,7 @@ use borrow.Author.Tests.{le-leb, leb-true}
 use lib.Dec.{leb}
 use Rattle.paper.specs.Limits.{most_levels}
 use Rattle.paper.specs.Metadata.{rising}
-use Rattle.paper.specs.Schemas.{Column, Schema, leftover_only, column, list, fields, SchemaFields, no_columns, named, column_names, column_code, schema_of}
+use Rattle.paper.specs.Schemas.{Column, Schema, leftover_only, column, list, fields, SchemaFields, none_named, named, column_names, column_code, schema_of}
 use Rattle.paper.proofs.WordLaws.{and_both}
 use Rattle.schemas.proofs.FieldsStandLaws.{FirstField, first_field, field_stands}
 use Rattle.schemas.proofs.StandingLaws.{some_level, column_stands, list_stands, object_stands, schema_stands}
@@ -79,7 +79,7 @@ module _ (s : List ℕ) where
         (both (both (field_there (first_field inside object.some_field_lem)) inside.rise) (fields_good columns (levels - 1) (place + 3) (frame_end s place) inside))
 
     pub fields_good : (columns : SchemaFields) (levels place to : ℕ) → FieldsStand levels s place to columns → good_fields columns levels ≡ true
-    fields_good no_columns levels place to stand = refl
+    fields_good none_named levels place to stand = refl
     fields_good (named name node more) levels place to stand =
         let field = field_stands stand in
         both (node_good node levels (field_node s place) field.inside) (fields_good more levels (frame_end s place) to field.behind)

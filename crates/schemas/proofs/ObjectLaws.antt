@@ -11,7 +11,7 @@ use lib.ListN.{length}
 use Rattle.order.specs.Before.{before}
 use Rattle.paper.specs.Framing.{Piece, pieces_of}
 use Rattle.paper.specs.Metadata.{rising}
-use Rattle.paper.specs.Schemas.{Schema, fields, SchemaFields, no_columns, named, column_names, field_nodes, node_by, node_of}
+use Rattle.paper.specs.Schemas.{Schema, fields, SchemaFields, none_named, named, column_names, field_nodes, node_by, node_of}
 use Rattle.paper.specs.Words.{part, given, and_then, is_there}
 use Rattle.schemas.proofs.FieldLaws.{field_then, columns_at, columns_ended}
 use Rattle.schemas.proofs.FieldFrameLaws.{FieldHere, field_here}
@@ -106,7 +106,7 @@ module _ {levels : ℕ} {s : List ℕ} {from to last place : ℕ} (seen : Fields
   unfolding rising_behind and_then column_names is_there given rising
   fields_done past = go (eqb from to) refl
     where
-      ended : {names : List (List ℕ)} → NameBefore s last place names → is_there (given (rising (names ++ [])) (some no_columns)) ≡ true
+      ended : {names : List (List ℕ)} → NameBefore s last place names → is_there (given (rising (names ++ [])) (some none_named)) ≡ true
       ended (first_field e) = refl
       ended (behind_field h k) = refl
 

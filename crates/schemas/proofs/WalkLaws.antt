@@ -11,7 +11,7 @@ use borrow.Author.Tests.{eq-eqb, ne_eqb}
 use lib.Dec.{eqb}
 use lib.ListN.{length}
 use Rattle.paper.specs.Limits.{most_levels}
-use Rattle.paper.specs.Schemas.{Schema, leftover_only, column, list, fields, SchemaFields, no_columns, named, schema_of}
+use Rattle.paper.specs.Schemas.{Schema, leftover_only, column, list, fields, SchemaFields, none_named, named, schema_of}
 use Rattle.paper.specs.Words.{at}
 use Rattle.schemas.proofs.FieldsStandLaws.{FieldStands, field_stands, no_columns_lem}
 use Rattle.schemas.proofs.StandingLaws.{leftover_stands, column_stands, ListStands, list_stands, ObjectStands, object_stands, schema_stands}
@@ -110,7 +110,7 @@ module _ (s : List ℕ) where
         (fields_frames columns (levels - 1) (place + 3) (frame_end s place) here.inside)
 
     pub fields_frames : (columns : SchemaFields) (levels place to : ℕ) → FieldsStand levels s place to columns → Frames s place to
-    fields_frames no_columns levels place to stand = up_to s place (no_columns_lem stand) arrived
+    fields_frames none_named levels place to stand = up_to s place (no_columns_lem stand) arrived
     fields_frames (named name node more) levels place to stand =
         let here = field_stands stand in
         from s place (field_node s place) (next_field s place here.tagged)

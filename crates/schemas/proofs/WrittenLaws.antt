@@ -10,7 +10,7 @@ use Rattle.numbers.proofs.NumberLaws.{bytes_back}
 use Rattle.numbers.specs.Little.{number, number_bytes, number_at}
 use Rattle.paper.specs.Framing.{frame}
 use Rattle.paper.specs.Limits.{most_levels}
-use Rattle.paper.specs.Schemas.{Schema, leftover_only, column, list, fields, SchemaFields, no_columns, named, schema_of}
+use Rattle.paper.specs.Schemas.{Schema, leftover_only, column, list, fields, SchemaFields, none_named, named, schema_of}
 use Rattle.paper.specs.Words.{at, part}
 use Rattle.schemas.proofs.FieldsStandLaws.{field_stands, no_columns_lem}
 use Rattle.frames.proofs.PieceLaws.{length_part, part_cons, part_none}
@@ -83,7 +83,7 @@ module _ (s : List ℕ) (bytes : (i : ℕ) → at s i < 256) where
         tagged_bytes place 0x30 (fields_bytes columns) stands.within here.tagged (fields_written columns (levels - 1) (place + 3) (frame_end s place) here.inside)
 
     pub fields_written : (columns : SchemaFields) (levels place to : ℕ) → FieldsStand levels s place to columns → part s place to ≡ fields_bytes columns
-    fields_written no_columns levels place to stand = part_none s place to (omega (arith, no_columns_lem stand))
+    fields_written none_named levels place to stand = part_none s place to (omega (arith, no_columns_lem stand))
     fields_written (named name node more) levels place to stand =
         let here = field_stands stand in
         let node-fills = here.fills in

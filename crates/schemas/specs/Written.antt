@@ -2,7 +2,7 @@
 use Rattle.std.specs.Prelude.{Bool, true, false, ◌&&◌, List, [], ◌∷◌, ◌++◌, ℕ, ◌-◌, leb}
 use Rattle.paper.specs.Framing.{frame}
 use Rattle.paper.specs.Metadata.{rising}
-use Rattle.paper.specs.Schemas.{Schema, leftover_only, column, list, fields, SchemaFields, no_columns, named, column_names, column_code}
+use Rattle.paper.specs.Schemas.{Schema, leftover_only, column, list, fields, SchemaFields, none_named, named, column_names, column_code}
 
 unfoldable mutual
   pub schema_bytes : Schema → List ℕ
@@ -12,12 +12,12 @@ unfoldable mutual
   schema_bytes (fields columns) = frame 0x30 (fields_bytes columns)
 
   pub fields_bytes : SchemaFields → List ℕ
-  fields_bytes no_columns = []
+  fields_bytes none_named = []
   fields_bytes (named name node more) = frame 0x31 (frame 0x32 name ++ schema_bytes node) ++ fields_bytes more
 
 -- There is a field.
 unfoldable pub some_field : SchemaFields → Bool
-some_field no_columns = false
+some_field none_named = false
 some_field (named name node more) = true
 
 -- Within so many levels: codes are type codes, an object has a field or more, and names rise strictly.
@@ -30,5 +30,5 @@ unfoldable mutual
       leb 1 levels && ((some_field columns && rising (column_names columns)) && good_fields columns (levels - 1))
 
   pub good_fields : SchemaFields → (levels : ℕ) → Bool
-  good_fields no_columns levels = true
+  good_fields none_named levels = true
   good_fields (named name node more) levels = good_schema node levels && good_fields more levels

@@ -7,7 +7,7 @@ use Rattle.paper.specs.Cells.{takes}
 use Rattle.paper.specs.Meaning.{Scalar, Doc, null, scalar, array, object, Docs, no_docs, doc, Fields, no_fields, field}
 use Rattle.paper.specs.Rows.{Place, empty, leftover, typed, Typed, cell, inner}
 use Rattle.paper.specs.Rules.{has_typed, leftover_of, is_object, is_array, any_named, has_any, inside_lawful, inner_lawful}
-use Rattle.paper.specs.Schemas.{Column, Schema, leftover_only, column, list, fields, SchemaFields, no_columns, named, column_names}
+use Rattle.paper.specs.Schemas.{Column, Schema, leftover_only, column, list, fields, SchemaFields, none_named, named, column_names}
 use Rattle.paper.specs.Shredding.{unnamed, with_rest, cut_scalar, cut_all, cut_field, cut, cut_fields}
 use Rattle.paper.specs.Standing.{field_at}
 use Rattle.written.proofs.FieldLaws.{unnamed_apart}
@@ -107,7 +107,7 @@ module _ (test : Schema → Place → Bool) (missing : (node : Schema) → test 
         (rest_everywhere _ (unnamed (column_names columns) fs) (inner (cut_fields columns fs)) (cut-every_field columns fs))
 
     cut-every_field : (columns : SchemaFields) (fs : Fields) → every_field test columns (cut_fields columns fs) ≡ true
-    cut-every_field no_columns fs = refl
+    cut-every_field none_named fs = refl
     cut-every_field (named name node columns) fs =
         rw (every_field_lem node (λ d. cut_everywhere node d) (field_at name fs), cut-every_field columns fs)
 

@@ -12,7 +12,7 @@ use Rattle.paper.specs.Meaning.{Scalar, Doc, null, scalar, array, object, Docs, 
 use Rattle.paper.specs.Metadata.{Dictionary}
 use Rattle.paper.specs.Rows.{empty, leftover, typed, both, Typed, cell, inner}
 use Rattle.paper.specs.Rules.{has_leftover, has_typed, leftover_of, is_object, is_array, is_fields_node, is_list_node, named_by, any_named, has_any, breaks_a, breaks_b, breaks_c, breaks_d, breaks_e, breaks_f, inside_lawful, place_lawful_by, cell_lawful, inner_lawful, elements_lawful, place_lawful, fields_lawful}
-use Rattle.paper.specs.Schemas.{Column, Schema, leftover_only, column, list, fields, SchemaFields, no_columns, named, column_names}
+use Rattle.paper.specs.Schemas.{Column, Schema, leftover_only, column, list, fields, SchemaFields, none_named, named, column_names}
 use Rattle.paper.specs.Shredding.{unnamed, with_rest, cut_scalar, cut_all, cut_field, cut, cut_fields}
 use Rattle.paper.specs.Standing.{field_at}
 use Rattle.paper.specs.Words.{among}
@@ -128,7 +128,7 @@ module _ (names : Dictionary) where
         (cut_fields-lawful columns fs there)
 
     cut_fields-lawful : (columns : SchemaFields) (fs : Fields) → field_names_there names fs ≡ true → fields_lawful columns names (cut_fields columns fs) ≡ true
-    cut_fields-lawful no_columns fs there = refl
+    cut_fields-lawful none_named fs there = refl
     cut_fields-lawful (named name node columns) fs there =
         rw (
           field_lawful name node (λ d found. cut_lawful node d found) (field_at name fs) (λ d found. field_there names name fs d there found),

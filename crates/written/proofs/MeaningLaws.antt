@@ -13,7 +13,7 @@ use Rattle.paper.specs.Metadata.{rising}
 use Rattle.paper.specs.Normal.{field_names}
 use Rattle.paper.specs.Rebuilding.{merge, fields_in, or_null, place_meaning_by, cell_doc, inner_doc, list_meaning, add_field, place_meaning, fields_meaning}
 use Rattle.paper.specs.Rows.{Place, empty, leftover, typed, both, Typed, cell, inner}
-use Rattle.paper.specs.Schemas.{Column, Schema, leftover_only, column, list, fields, SchemaFields, no_columns, named, column_names}
+use Rattle.paper.specs.Schemas.{Column, Schema, leftover_only, column, list, fields, SchemaFields, none_named, named, column_names}
 use Rattle.paper.specs.Shredding.{unnamed, with_rest, cut_scalar, cut_all, cut_field, cut, cut_fields}
 use Rattle.paper.specs.Standing.{field_at}
 use Rattle.schemas.proofs.GoodLaws.{good_element, good_object, good_field}
@@ -90,7 +90,7 @@ mutual
 
   fields_mean : (columns : SchemaFields) (levels : ℕ) (fs : Fields) → good_fields columns levels ≡ true → rising (column_names columns) ≡ true
       → rising (field_names fs) ≡ true → all_members (well_formed levels) fs ≡ true → fields_meaning columns (cut_fields columns fs) ≡ named_of (column_names columns) fs
-  fields_mean no_columns levels fs good rise rises well = sym (named_none fs)
+  fields_mean none_named levels fs good rise rises well = sym (named_none fs)
   fields_mean (named name node columns) levels fs good rise rises well =
       let goods = good_field name node columns levels good in
       ap (λ (x : Option Doc). add_field name x (fields_meaning columns (cut_fields columns fs)))

@@ -17,7 +17,7 @@ use Rattle.paper.specs.Meaning.{Scalar, Doc, null, scalar, array, object, Docs, 
 use Rattle.paper.specs.Metadata.{Dictionary}
 use Rattle.paper.specs.Normal.{value_bytes}
 use Rattle.paper.specs.Rows.{Place, empty, leftover, typed, Typed, cell, inner, Places, leftover_meaning, place_within, no_body, cell_body, inner_body, list_places, place_under, field_places}
-use Rattle.paper.specs.Schemas.{Column, Schema, leftover_only, column, list, fields, SchemaFields, no_columns, named, column_names}
+use Rattle.paper.specs.Schemas.{Column, Schema, leftover_only, column, list, fields, SchemaFields, none_named, named, column_names}
 use Rattle.paper.specs.Shredding.{unnamed, with_rest, cut_scalar, cut_all, cut_field, cut, cut_fields, typed_bytes, places_bytes}
 use Rattle.paper.specs.Standing.{field_at}
 use Rattle.paper.specs.Words.{given, and_then}
@@ -129,7 +129,7 @@ module _ (names : Dictionary) (few : length names ≤ 2 ^ 32) where
 
     fields_back : (columns : SchemaFields) (levels : ℕ) (fs : Fields) → good_fields columns levels ≡ true → MembersFit names levels fs
         → length (places_bytes names (cut_fields columns fs)) < 65536 → field_places columns levels names (place_pieces names (cut_fields columns fs)) ≡ some (cut_fields columns fs)
-    fields_back no_columns levels fs good fit short = refl
+    fields_back none_named levels fs good fit short = refl
     fields_back (named name node columns) levels fs good fit short =
         let goods = good_field name node columns levels good in
         let size = places_length names (cut_field (λ d. cut node d) (field_at name fs)) (cut_fields columns fs) in

@@ -4,7 +4,7 @@ use Rattle.paper.specs.Cells.{takes}
 use Rattle.paper.specs.Meaning.{Doc, null, scalar, array, object}
 use Rattle.paper.specs.Rows.{Place, empty, leftover, typed, both, Typed, cell, inner, Places, no_places, place}
 use Rattle.paper.specs.Rules.{has_typed, leftover_of, is_object, is_array, has_any, inside_lawful, inner_lawful}
-use Rattle.paper.specs.Schemas.{Column, Schema, leftover_only, column, list, fields, SchemaFields, no_columns, named, column_names}
+use Rattle.paper.specs.Schemas.{Column, Schema, leftover_only, column, list, fields, SchemaFields, none_named, named, column_names}
 
 -- A column takes a document that is a scalar of its type.
 unfoldable pub takes_doc : Column → Doc → Bool
@@ -46,6 +46,6 @@ unfoldable mutual
   everywhere test (fields columns) p = test (fields columns) p && inside_lawful (inner_lawful (λ ps. every_field test columns ps)) p
 
   pub every_field : (Schema → Place → Bool) → SchemaFields → Places → Bool
-  every_field test no_columns ps = true
+  every_field test none_named ps = true
   every_field test (named name node columns) no_places = true
   every_field test (named name node columns) (place p ps) = everywhere test node p && every_field test columns ps
