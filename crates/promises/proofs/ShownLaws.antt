@@ -139,10 +139,10 @@ no_named name (named own node columns) = refl
 
 unnamed_beside : (columns : SchemaFields) (d : Doc) → has_any (column_names columns) d ≡ false → any_named (column_names columns) (fields_in d) ≡ false
 unfolding has_any fields_in any_named
-unnamed_beside columns null none_named = refl
-unnamed_beside columns (scalar value) none_named = refl
-unnamed_beside columns (array ds) none_named = refl
-unnamed_beside columns (object fs) none_named = none_named
+unnamed_beside columns null nothing = refl
+unnamed_beside columns (scalar value) nothing = refl
+unnamed_beside columns (array ds) nothing = refl
+unnamed_beside columns (object fs) nothing = nothing
 
 -- A leftover beside something typed has none of the node's names (rule c).
 pub beside_unnamed : (columns : SchemaFields) (names : Dictionary) (d : Doc) (t : Typed) → place_lawful (fields columns) names (both d t) ≡ true
