@@ -18,7 +18,7 @@ use Rattle.numbers.specs.Little.{number_at}
 use Rattle.paper.proofs.MeaningLaws.{prefixed_doc, string_is, prefixed_is}
 use Rattle.paper.specs.Boxes.{double_in, double_of, box_of}
 use Rattle.paper.specs.FirstBytes.{reading_of, kind_reading, primitive_reading, payload_sizes, length_prefixed}
-use Rattle.paper.specs.Meaning.{boolean, payload, text, Doc, null, scalar, array, object}
+use Rattle.paper.specs.Meaning.{boolean, payload, Doc, null, scalar, array, object}
 use Rattle.paper.specs.Metadata.{Dictionary}
 use Rattle.paper.specs.Operations.{box_read_by}
 use Rattle.paper.specs.Refusals.{reached}

@@ -17,7 +17,7 @@ use Rattle.signed.specs.Signed.{signed_of}
 use Rattle.paper.specs.Cells.{body_kind, cell_by, cell_meaning, number_cell, handed_out}
 use Rattle.paper.specs.FirstBytes.{payload_sizes}
 use Rattle.paper.specs.Limits.{most_cell}
-use Rattle.paper.specs.Meaning.{Scalar, boolean, payload, text, text_meaning}
+use Rattle.paper.specs.Meaning.{Scalar, boolean, payload, text_meaning}
 use Rattle.paper.specs.Operations.{cell_outcome, cell_read_by, cell_answer}
 use Rattle.paper.specs.Refusals.{reached, require, obtain}
 use Rattle.paper.specs.Schemas.{column_code, column_of}

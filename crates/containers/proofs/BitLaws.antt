@@ -1,7 +1,6 @@
 -- A bit map: the bit that is set is 1, the others keep what they had. A bit of `or` is the greater of the two bits.
-use mathlib.Core.Bool.{Bool, true, false}
 use mathlib.Core.List.{List}
-use mathlib.Core.Path.{◌≡◌, refl, sym, ap, ◌∙◌}
+use mathlib.Core.Path.{◌≡◌, refl, ap, ◌∙◌}
 use Prim.Native.Nat.{ℕ, zero, suc, ◌+◌, ◌*◌, ◌/◌, ◌%◌, ◌^◌, ◌≤◌, ◌<◌, max}
 use native.Mathlib.Nat.{pow-zero, pow-suc, div-one, zero-div, div_self, div-eq_of_lt, mul-div-mul_right, mul-mod_left, mod-eq_of_lt, one-mul}
 use native.Mathlib.Omega.{arith}

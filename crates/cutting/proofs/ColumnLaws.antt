@@ -1,12 +1,12 @@
 -- A value under a column: by its first byte it is a cell exactly when its type is the column's.
 use mathlib.Core.Bool.{Bool, true, false, cond}
-use mathlib.Core.List.{List, [], ◌∷◌, ◌++◌}
+use mathlib.Core.List.{List, [], ◌∷◌}
 use mathlib.Core.Path.{◌≡◌, refl, sym, ap, ◌∙◌}
-use Prim.Native.Nat.{ℕ, zero, suc, ◌+◌, ◌*◌, ◌≤◌, ◌<◌}
+use Prim.Native.Nat.{ℕ, zero, suc, ◌+◌, ◌*◌, ◌≤◌}
 use native.Mathlib.Omega.{arith}
-use borrow.Author.Tests.{eqb-true, eqb-false, ne_eqb, leb-true}
+use borrow.Author.Tests.{eqb-true, eqb-false, ne_eqb}
 use lib.Dec.{leb, eqb}
-use lib.ListN.{length, drop, get_or}
+use lib.ListN.{length, drop}
 use lib.Seq.{drop_at}
 use Rattle.enclosing.specs.Frames.{place_of, typed_if, fixed_place, column_place, Headed}
 use Rattle.forms.proofs.FirstByteLaws.{short_reading, string_reading, binary_reading, fixed_reading}
@@ -19,16 +19,15 @@ use Rattle.numbers.specs.Little.{number_bytes}
 use Rattle.paper.proofs.WordLaws.{never}
 use Rattle.paper.specs.Cells.{takes, cell_bytes}
 use Rattle.paper.specs.FirstBytes.{length_prefixed, payload_sizes, primitive_reading, kind_reading, reading_of}
-use Rattle.paper.specs.Framing.{frame}
 use Rattle.paper.specs.Limits.{most_value}
 use Rattle.paper.specs.Meaning.{Scalar, boolean, payload, text, Doc, null, scalar, array, object}
 use Rattle.paper.specs.Metadata.{Dictionary}
-use Rattle.paper.specs.Normal.{prefixed_bytes, text_bytes, scalar_bytes, array_bytes, object_bytes, value_bytes}
+use Rattle.paper.specs.Normal.{prefixed_bytes, text_bytes, scalar_bytes, value_bytes}
 use Rattle.paper.specs.Rows.{typed, leftover, cell}
 use Rattle.paper.specs.Schemas.{Column, column, column_code}
 use Rattle.paper.specs.Shredding.{cut, cut_scalar, place_bytes, typed_bytes}
 use Rattle.paper.specs.Words.{at}
-use Rattle.paper.specs.declared.Reading.TheVariants.{Fixed, Prefixed, Short, ObjectHead, ArrayHead}
+use Rattle.paper.specs.declared.Reading.TheVariants.{Prefixed}
 use Rattle.paper.specs.declared.Reading.{Reading}
 
 -- What is typed or left over, by a test.

@@ -1,18 +1,15 @@
 -- The places of an object's fields: the first one's in front of those behind it, from the member that has its name or empty.
-use mathlib.Core.Bool.{Bool, true, false, ◌&&◌}
-use mathlib.Core.List.{List, [], ◌∷◌, ◌++◌}
+use mathlib.Core.Bool.{Bool, true, false}
+use mathlib.Core.List.{List, [], ◌∷◌}
 use mathlib.Core.Option.{none, some}
-use mathlib.Core.Path.{◌≡◌, refl, sym, ap, ◌∙◌}
-use Prim.Native.Nat.{ℕ, ◌+◌, ◌-◌, ◌≤◌, ◌<◌}
+use mathlib.Core.Path.{◌≡◌, sym, ap, ◌∙◌}
+use Prim.Native.Nat.{ℕ, ◌-◌, ◌<◌}
 use native.Mathlib.Omega.{arith}
-use borrow.Author.Tests.{ltb-true, ltb-false, eqb-true, eqb-false, lt-ltb}
+use borrow.Author.Tests.{ltb-true, eqb-true, eqb-false, lt-ltb}
 use lib.Arith.{lt_of_le-ne}
 use lib.Dec.{ltb, eqb}
-use lib.ListN.{length, get_or, length-append}
-use Rattle.dictionary.specs.declared.ids.InputId.{InputId}
-use Rattle.fields.proofs.TellingLaws.{FirstTold, field_told_lem, field_in_table}
-use Rattle.fields.specs.Telling.{entry_place, looked_at, FieldsTold}
-use Rattle.forms.specs.WellFormed.{all_members, well_formed, names_there, field_names_there}
+use lib.ListN.{get_or}
+use Rattle.forms.specs.WellFormed.{all_members, names_there, field_names_there}
 use Rattle.lookup.specs.Looking.{Tells, found, missing}
 use Rattle.lookup.specs.declared.Looked.TheVariants.{At, Nowhere}
 use Rattle.lookup.specs.declared.Looked.{Looked}
@@ -21,24 +18,15 @@ use Rattle.members.specs.declared.Members.{Members}
 use Rattle.names.proofs.IdLaws.{id_name, id_place}
 use Rattle.names.proofs.SameLaws.{same_refl}
 use Rattle.paper.proofs.WordLaws.{never, and_both}
-use Rattle.paper.specs.Framing.{frame}
-use Rattle.paper.specs.Meaning.{Doc, Fields, no_fields, field}
+use Rattle.paper.specs.Meaning.{Doc, Fields, field}
 use Rattle.paper.specs.Metadata.{Dictionary, rising}
 use Rattle.paper.specs.Normal.{id_of, field_names, value_bytes}
 use Rattle.paper.specs.Schemas.{Schema, SchemaFields, named, column_names}
-use Rattle.paper.specs.Shredding.{cut, cut_field, cut_fields, place_bytes, places_bytes}
+use Rattle.paper.specs.Shredding.{cut_fields}
 use Rattle.paper.specs.Standing.{field_at}
-use Rattle.paper.specs.Words.{same, among}
-use Rattle.putting.proofs.PutLaws.{put_join, told_here, told_full}
-use Rattle.putting.specs.Put.{PutAs, put, full}
-use Rattle.putting.specs.declared.Put.TheVariants.{At as PutAt, Full}
-use Rattle.putting.specs.declared.Put.{Put}
-use Rattle.schemas.proofs.FieldsStandLaws.{FieldStands, FirstField, no_field, first_field, field_framed, field_named}
-use Rattle.schemas.specs.Frames.{frame_end}
-use Rattle.schemas.specs.Positions.{field_node, FieldsStand}
-use Rattle.writing.proofs.EndLaws.{nothing_ends}
-use Rattle.cutting.specs.Cutting.{Valued, PlaceReady, place_cut, FieldsReady, fields_cut, Run, Passed, PassedBy, up_to, none as passed_none, is_member}
-use Rattle.cutting.proofs.SkipLaws.{skipped, skipped_rise, skipped_good, skipped_there, from_run, from_skipped, first_above, skipped_cut, unknown_missing, lower_missing}
+use Rattle.paper.specs.Words.{among}
+use Rattle.cutting.specs.Cutting.{PassedBy, up_to, none as passed_none, is_member}
+use Rattle.cutting.proofs.SkipLaws.{skipped, from_run, from_skipped, first_above, skipped_cut, unknown_missing, lower_missing}
 
 -- ---- the member of a column's name, or none
 

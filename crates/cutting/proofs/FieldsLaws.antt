@@ -1,30 +1,29 @@
 -- `fields`: the first field's place in front of those behind it, from the member that has its name, or empty.
-use mathlib.Core.Bool.{Bool, true, false}
+use mathlib.Core.Bool.{true, false}
 use mathlib.Core.List.{List, [], ◌∷◌, ◌++◌}
-use mathlib.Core.Option.{Option, none, some}
-use mathlib.Core.Path.{◌≡◌, refl, sym, ap, ◌∙◌}
+use mathlib.Core.Path.{◌≡◌, ap, ◌∙◌}
 use Prim.Native.Nat.{ℕ, ◌+◌, ◌-◌, ◌≤◌, ◌<◌}
 use native.Mathlib.Omega.{arith}
 use lib.Arith.{lt_of_le-ne}
 use lib.ListN.{length, length-append, length-take, length-drop}
 use Rattle.fields.proofs.TellingLaws.{FirstTold, field_told_lem, field_in_table}
-use Rattle.fields.specs.Telling.{entry_place, looked_at, FieldsTold}
+use Rattle.fields.specs.Telling.{entry_place, looked_at}
 use Rattle.forms.specs.WellFormed.{well_formed}
 use Rattle.members.specs.Members.{PartThere, member_part, From}
 use Rattle.members.specs.declared.Members.{Members}
 use Rattle.paper.specs.Framing.{frame}
-use Rattle.paper.specs.Meaning.{Doc, Fields}
-use Rattle.paper.specs.Metadata.{Dictionary, rising}
-use Rattle.paper.specs.Schemas.{Schema, SchemaFields, none_named, named, column_names}
+use Rattle.paper.specs.Meaning.{Fields}
+use Rattle.paper.specs.Metadata.{rising}
+use Rattle.paper.specs.Schemas.{SchemaFields, none_named, column_names}
 use Rattle.paper.specs.Shredding.{cut, cut_field, cut_fields, place_bytes, places_bytes}
 use Rattle.paper.specs.Standing.{field_at}
 use Rattle.putting.proofs.PutLaws.{put_join, told_here, told_full}
-use Rattle.putting.specs.Put.{Room, PutAs, put, full}
+use Rattle.putting.specs.Put.{PutAs, put, full}
 use Rattle.putting.specs.declared.Put.TheVariants.{At, Full}
 use Rattle.putting.specs.declared.Put.{Put}
 use Rattle.schemas.proofs.FieldsStandLaws.{FirstField, no_field, first_field, field_framed, field_named}
 use Rattle.schemas.specs.Frames.{frame_end}
-use Rattle.schemas.specs.Positions.{field_node, FieldsStand}
+use Rattle.schemas.specs.Positions.{field_node}
 use Rattle.writing.proofs.EndLaws.{nothing_ends}
 use Rattle.cutting.specs.Cutting.{PlaceReady, place_cut, FieldsReady, fields_cut, Run, PassedBy, is_member}
 use Rattle.cutting.proofs.FieldLaws.{Reached, reached, not_reached, passed_from, passed_cut}

@@ -1,6 +1,6 @@
 -- `list_place`: an array's elements written last to first, those from one on stand up to the end; then the heads.
-use mathlib.Core.Bool.{Bool, true, ◌&&◌}
-use mathlib.Core.List.{List, [], ◌∷◌, ◌++◌}
+use mathlib.Core.Bool.{true}
+use mathlib.Core.List.{List, [], ◌++◌}
 use mathlib.Core.Logic.{◌⊎◌, inl, inr}
 use mathlib.Core.Path.{◌≡◌, refl, sym, ap, ◌∙◌}
 use Prim.Native.Nat.{ℕ, zero, suc, ◌+◌, ◌-◌, ◌≤◌, ◌<◌}
@@ -17,8 +17,6 @@ use Rattle.members.specs.declared.Members.{Members}
 use Rattle.paper.proofs.WordLaws.{never, and_both}
 use Rattle.paper.specs.Bounds.{most_walked}
 use Rattle.paper.specs.FirstBytes.{reading_of}
-use Rattle.paper.specs.Framing.{frame}
-use Rattle.paper.specs.Limits.{most_row}
 use Rattle.paper.specs.Meaning.{Doc, null, scalar, array, object, Docs, no_docs, doc}
 use Rattle.paper.specs.Metadata.{Dictionary}
 use Rattle.paper.specs.Normal.{value_bytes, element_bytes}
@@ -32,9 +30,9 @@ use Rattle.putting.proofs.PutLaws.{told_here, told_full, told_length, told_room}
 use Rattle.putting.specs.Put.{Room, PutAs, full}
 use Rattle.putting.specs.declared.Put.TheVariants.{At, Full}
 use Rattle.putting.specs.declared.Put.{Put}
-use Rattle.writing.proofs.EndLaws.{nothing_ends, ends_join, ends_length}
+use Rattle.writing.proofs.EndLaws.{nothing_ends, ends_join}
 use Rattle.writing.specs.Ends.{EndsAt}
-use Rattle.cutting.specs.Cutting.{Valued, PlaceReady, place_cut, ListReady, list_cut}
+use Rattle.cutting.specs.Cutting.{PlaceReady, place_cut, ListReady, list_cut}
 use Rattle.cutting.proofs.NodeLaws.{put_left}
 
 -- ---- elements from one on

@@ -1,15 +1,13 @@
 -- `missing`: empty places are all alike, so those of the fields that were passed may stand behind those of the fields that are left.
-use mathlib.Core.List.{List, [], ◌∷◌, ◌++◌, append_assoc, append-nil}
+use mathlib.Core.List.{List, [], ◌++◌, append_assoc, append-nil}
 use mathlib.Core.Path.{◌≡◌, refl, sym, ap, ◌∙◌}
 use Prim.Native.Nat.{ℕ, ◌+◌, ◌-◌, ◌≤◌, ◌<◌}
 use native.Mathlib.Omega.{arith}
 use lib.ListN.{length, length-append}
 use Rattle.clashes.specs.Shared.{SomeFields}
-use Rattle.enclosing.proofs.FrameLaws.{frame_length}
 use Rattle.members.proofs.FromLaws.{no_member}
 use Rattle.members.specs.declared.Members.{Members}
 use Rattle.paper.specs.Framing.{frame}
-use Rattle.paper.specs.Limits.{most_row}
 use Rattle.paper.specs.Meaning.{Fields, no_fields}
 use Rattle.paper.specs.Metadata.{Dictionary}
 use Rattle.paper.specs.Schemas.{SchemaFields, none_named, named}

@@ -1,18 +1,13 @@
 -- `place`: by the kind of the node, a leftover, a value under a column, a list's or an object's.
 use mathlib.Core.List.{List}
-use mathlib.Core.Path.{◌≡◌, refl, sym, ap, ◌∙◌}
+use mathlib.Core.Path.{◌≡◌, ap, ◌∙◌}
 use Prim.Native.Nat.{ℕ, ◌+◌, ◌-◌, ◌≤◌}
-use native.Mathlib.Omega.{arith}
 use lib.ListN.{length}
 use Rattle.enclosing.specs.Frames.{place_of, column_place, Headed}
 use Rattle.fields.proofs.TellingLaws.{element_told, fields_told}
-use Rattle.fields.specs.Telling.{Told}
 use Rattle.paper.specs.FirstBytes.{reading_of}
-use Rattle.paper.specs.Framing.{frame}
-use Rattle.paper.specs.Meaning.{Doc}
-use Rattle.paper.specs.Normal.{value_bytes}
-use Rattle.paper.specs.Rows.{Place, leftover}
-use Rattle.paper.specs.Schemas.{Column, Schema, leftover_only, column, list, fields, column_code}
+use Rattle.paper.specs.Rows.{leftover}
+use Rattle.paper.specs.Schemas.{Schema}
 use Rattle.paper.specs.Shredding.{cut, place_bytes}
 use Rattle.paper.specs.Words.{at}
 use Rattle.putting.specs.Put.{PutAs}

@@ -1,9 +1,9 @@
 -- `object_place`: an object's places, their head, what is left over in front of that, and the place's head.
-use mathlib.Core.Bool.{Bool, true, ◌&&◌}
-use mathlib.Core.List.{List, [], ◌∷◌, ◌++◌}
+use mathlib.Core.Bool.{true}
+use mathlib.Core.List.{List, ◌++◌}
 use mathlib.Core.Logic.{◌⊎◌, inl, inr}
 use mathlib.Core.Path.{◌≡◌, refl, sym, ap, ◌∙◌}
-use Prim.Native.Nat.{ℕ, zero, suc, ◌+◌, ◌-◌, ◌*◌, ◌^◌, ◌≤◌, ◌<◌}
+use Prim.Native.Nat.{ℕ, zero, suc, ◌+◌, ◌-◌, ◌≤◌, ◌<◌}
 use native.Mathlib.Omega.{arith}
 use lib.ListN.{length, length-append}
 use Rattle.containers.specs.Layouts.{Container}
@@ -16,7 +16,6 @@ use Rattle.members.proofs.ShapeLaws.{value_there}
 use Rattle.members.specs.Members.{MembersAt, Held}
 use Rattle.members.specs.declared.Members.{Members}
 use Rattle.paper.proofs.WordLaws.{never, and_both}
-use Rattle.paper.specs.Bounds.{most_walked}
 use Rattle.paper.specs.FirstBytes.{reading_of}
 use Rattle.paper.specs.Framing.{frame}
 use Rattle.paper.specs.Limits.{most_row}
@@ -25,7 +24,7 @@ use Rattle.paper.specs.Metadata.{Dictionary, rising}
 use Rattle.paper.specs.Normal.{field_names}
 use Rattle.paper.specs.Rows.{Typed, leftover, inner}
 use Rattle.paper.specs.Schemas.{SchemaFields, fields, column_names}
-use Rattle.paper.specs.Shredding.{unnamed, with_rest, cut, cut_fields, place_bytes, typed_bytes, places_bytes}
+use Rattle.paper.specs.Shredding.{unnamed, with_rest, cut, cut_fields, place_bytes, typed_bytes}
 use Rattle.paper.specs.Words.{at}
 use Rattle.paper.specs.declared.Reading.TheVariants.{ObjectHead}
 use Rattle.paper.specs.declared.Reading.{Reading}
@@ -34,9 +33,7 @@ use Rattle.putting.specs.Put.{Room, PutAs, full}
 use Rattle.putting.specs.declared.Put.TheVariants.{At, Full}
 use Rattle.putting.specs.declared.Put.{Put}
 use Rattle.remainder.specs.Remainder.{rest_bytes, RestReady}
-use Rattle.writing.proofs.EndLaws.{ends_join, ends_length}
-use Rattle.writing.specs.Ends.{EndsAt}
-use Rattle.cutting.specs.Cutting.{Valued, ObjectReady, object_cut, FieldsReady, fields_cut}
+use Rattle.cutting.specs.Cutting.{ObjectReady, object_cut, FieldsReady, fields_cut}
 use Rattle.cutting.proofs.NodeLaws.{put_left}
 
 -- A value that is no object is left over.

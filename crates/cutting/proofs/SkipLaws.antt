@@ -1,12 +1,11 @@
 -- An object's fields from one on: what holds of all holds of them, and fields that no column names leave what is cut as it is.
-use mathlib.Core.Bool.{Bool, true, false, ◌&&◌}
-use mathlib.Core.List.{List, [], ◌∷◌}
+use mathlib.Core.Bool.{Bool, true, false}
+use mathlib.Core.List.{List, ◌∷◌}
 use mathlib.Core.Logic.{◌⊎◌, inl, inr}
 use mathlib.Core.Option.{none}
 use mathlib.Core.Path.{◌≡◌, refl, sym, ◌∙◌}
 use Prim.Native.Nat.{ℕ, zero, suc, ◌+◌, ◌≤◌, ◌<◌}
 use native.Mathlib.Omega.{arith}
-use lib.ListN.{length, get_or}
 use Rattle.dictionary.specs.declared.ids.InputId.{InputId}
 use Rattle.forms.specs.WellFormed.{all_members, names_there, field_names_there}
 use Rattle.lookup.specs.Looking.{Tells, found}

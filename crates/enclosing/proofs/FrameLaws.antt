@@ -1,5 +1,5 @@
 -- A frame is its head in front of its body: the head is put, one more in front of it, or there is no room for it.
-use mathlib.Core.List.{List, [], ◌∷◌, ◌++◌, append_assoc}
+use mathlib.Core.List.{List, [], ◌++◌, append_assoc}
 use mathlib.Core.Path.{◌≡◌, refl, sym, ap, ◌∙◌}
 use Prim.Native.Nat.{ℕ, suc, ◌+◌, ◌-◌, ◌≤◌, ◌<◌}
 use native.Mathlib.Omega.{arith}
@@ -7,9 +7,9 @@ use lib.ListN.{length, length-append}
 use Rattle.numbers.proofs.NumberLaws.{length-number_bytes}
 use Rattle.numbers.specs.Little.{put_at, number_bytes}
 use Rattle.paper.specs.Framing.{frame}
-use Rattle.putting.proofs.PutLaws.{put_full, put_join, told_here, told_full}
+use Rattle.putting.proofs.PutLaws.{put_join, told_here, told_full}
 use Rattle.putting.proofs.ScalarLaws.{byte_ends}
-use Rattle.putting.specs.Put.{Room, PutAs, put, full}
+use Rattle.putting.specs.Put.{PutAs, put, full}
 use Rattle.putting.specs.declared.Put.TheVariants.{At, Full}
 use Rattle.putting.specs.declared.Put.{Put}
 use Rattle.writing.proofs.EndLaws.{number_ends, ends_join, ends_length}

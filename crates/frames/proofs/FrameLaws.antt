@@ -14,7 +14,7 @@ use Rattle.frames.specs.declared.Frame.TheVariants.{Ends, Cut}
 use Rattle.frames.specs.declared.Frame.{Frame}
 use Rattle.numbers.specs.Little.{number_at}
 use Rattle.paper.specs.Framing.{Piece, pieces_within, pieces_of}
-use Rattle.paper.specs.Words.{at, part, given, and_then, is_there}
+use Rattle.paper.specs.Words.{part, given, and_then, is_there}
 use Rattle.paper.proofs.WordLaws.{never, given_some, then_some, some_there, and_both}
 
 -- ---- what the code tells

@@ -1,8 +1,8 @@
 -- A scalar alone: its place by the outermost node, six bytes longer than it at most, and the row that is handed out.
 use mathlib.Core.Bool.{Bool, true, false, cond}
 use mathlib.Core.List.{List, [], ◌∷◌}
-use mathlib.Core.Path.{◌≡◌, refl, sym, ap, ◌∙◌}
-use Prim.Native.Nat.{ℕ, ◌+◌, ◌-◌, ◌≤◌, ◌<◌}
+use mathlib.Core.Path.{◌≡◌, refl, ap, ◌∙◌}
+use Prim.Native.Nat.{ℕ, ◌+◌, ◌-◌, ◌≤◌}
 use native.Mathlib.Omega.{arith}
 use lib.Dec.{eqb}
 use lib.ListN.{length, take, drop, length-drop}
@@ -16,7 +16,7 @@ use Rattle.enclosing.specs.Frames.{place_of, typed_if, fixed_place, column_place
 use Rattle.forms.proofs.NamesLaws.{normal-names_there}
 use Rattle.normalise.proofs.NumberedLaws.{last_bytes}
 use Rattle.paper.specs.FirstBytes.{reading_of}
-use Rattle.paper.specs.Limits.{most_levels, most_metadata, most_row, most_value}
+use Rattle.paper.specs.Limits.{most_levels, most_value}
 use Rattle.paper.specs.Meaning.{Doc}
 use Rattle.paper.specs.Normal.{names_used, value_bytes}
 use Rattle.paper.specs.Operations.{row_outcome}

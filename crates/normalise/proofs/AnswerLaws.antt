@@ -1,23 +1,20 @@
 -- What is answered of a document to be written, test by test: 8, a 9 for either buffer, or done.
-use mathlib.Core.Bool.{true, false, cond, ◌&&◌, and-false}
+use mathlib.Core.Bool.{true, false, and-false}
 use mathlib.Core.List.{List, []}
 use mathlib.Core.Path.{◌≡◌, refl, sym, ap, ◌∙◌}
 use Prim.Native.Nat.{ℕ, ◌≤◌, ◌<◌}
-use native.Mathlib.Omega.{arith}
 use borrow.Author.Tests.{le-leb, lt-leb}
 use lib.Dec.{leb}
 use lib.ListN.{length}
 use Rattle.normalise.specs.Answered.{Answered}
 use Rattle.numbers.specs.Little.{put_at}
-use Rattle.paper.specs.Bounds.{most_names}
 use Rattle.paper.specs.Limits.{most_value}
 use Rattle.paper.specs.Meaning.{Doc}
 use Rattle.paper.specs.Metadata.{Dictionary}
-use Rattle.paper.specs.Normal.{Document, names_used, metadata_bytes, normal_form}
+use Rattle.paper.specs.Normal.{names_used, metadata_bytes, normal_form}
 use Rattle.paper.specs.Operations.{written, document_room, document_answer, metadata_written, value_written, writable}
-use Rattle.paper.specs.Refusals.{Outcome, refused, reached, require}
+use Rattle.paper.specs.Refusals.{refused, reached, require}
 use Rattle.paper.specs.declared.DocumentAnswer.TheVariants.{Done, Short, Refused}
-use Rattle.paper.specs.declared.DocumentAnswer.{DocumentAnswer}
 use Rattle.paper.specs.declared.Refusal.TheVariants.{TooLarge}
 use Rattle.numbers.proofs.PutLaws.{put_none}
 

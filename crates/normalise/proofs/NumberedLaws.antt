@@ -1,16 +1,15 @@
 -- A lawful document whose names are numbered: what its value's writing asks, and what then stands in the room.
 use mathlib.Core.Bool.{true}
 use mathlib.Core.List.{List, [], ◌++◌, append-nil}
-use mathlib.Core.Option.{Option, some, some-injective}
-use mathlib.Core.Path.{◌≡◌, refl, sym, ap, subst, ◌∙◌}
+use mathlib.Core.Option.{some, some-injective}
+use mathlib.Core.Path.{◌≡◌, sym, ap, ◌∙◌}
 use Prim.Native.Nat.{ℕ, ◌+◌, ◌-◌, ◌*◌, ◌≤◌, ◌<◌}
-use native.Mathlib.Nat.{mul-le-mul, mul-one}
 use native.Mathlib.Omega.{arith}
 use lib.ListN.{length, get_or, take, drop, replicate, length-take, length-map, drop_of_length-le}
 use lib.Seq.{drop_at, take_all}
 use Rattle.dictionary.specs.Judging.{Opened}
 use Rattle.dictionary.specs.declared.Names.{Names}
-use Rattle.marking.specs.Ids.{ids_in, mark_ids, holds}
+use Rattle.marking.specs.Ids.{ids_in, mark_ids}
 use Rattle.marking.specs.Marking.{Markable}
 use Rattle.naming.specs.Chosen.{chosen_names, Chosen}
 use Rattle.normalise.specs.Answered.{Lent, Numbered, Answered}
@@ -21,7 +20,7 @@ use Rattle.paper.specs.Metadata.{Dictionary, names_in}
 use Rattle.paper.specs.Normal.{names_used, value_bytes, normal_form}
 use Rattle.paper.specs.Operations.{written}
 use Rattle.paper.specs.Values.{meaning_of, names_at}
-use Rattle.paper.specs.Words.{at, among, all_below, joined}
+use Rattle.paper.specs.Words.{among, all_below, joined}
 use Rattle.paper.specs.declared.DocumentAnswer.{DocumentAnswer}
 use Rattle.ranking.specs.Ranks.{Ranked}
 use Rattle.writing.specs.Ends.{EndsAt}

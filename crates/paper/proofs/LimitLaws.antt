@@ -1,8 +1,8 @@
 -- What the code's arithmetic and its tables ask of the limits: all of it, and nothing else of their numbers.
-use Prim.Native.Nat.{ℕ, ◌*◌, ◌^◌, ◌≤◌, ◌<◌}
+use Prim.Native.Nat.{◌*◌, ◌^◌, ◌≤◌, ◌<◌}
 use native.Mathlib.Omega.{arith}
 use Rattle.paper.specs.Bounds.{most_walked, most_names}
-use Rattle.paper.specs.Limits.{most_metadata, most_value, most_schema, most_path, most_row, most_cell, most_leftover, most_levels}
+use Rattle.paper.specs.Limits.{most_metadata, most_value, most_row, most_leftover}
 
 -- Sums and products of what is walked fit.
 pub value_walked : 2 * most_value ≤ most_walked

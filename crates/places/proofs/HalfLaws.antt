@@ -1,11 +1,11 @@
 -- A row of two frames: what its splitting tells, and what the row comes to by its two halves.
-use mathlib.Core.Bool.{Bool, true, false, cond, ◌&&◌}
+use mathlib.Core.Bool.{◌&&◌}
 use mathlib.Core.List.{List, [], ◌∷◌}
 use mathlib.Core.Option.{Option, none, some}
-use mathlib.Core.Path.{◌≡◌, refl, sym, ap, ◌∙◌}
+use mathlib.Core.Path.{◌≡◌, refl, sym, ◌∙◌}
 use Prim.Native.Nat.{ℕ, ◌+◌, ◌-◌, ◌≤◌, ◌<◌}
 use native.Mathlib.Omega.{arith}
-use borrow.Author.Tests.{eq-eqb, ne_eqb, le-leb, lt-leb}
+use borrow.Author.Tests.{ne_eqb, le-leb, lt-leb}
 use lib.Dec.{leb, eqb}
 use lib.ListN.{length, take, drop, length-take, length-drop}
 use Rattle.frames.specs.Frames.{frame_end, frame_by, frame_at, piece_in}
@@ -14,17 +14,16 @@ use Rattle.frames.specs.declared.Frame.{Frame}
 use Rattle.paper.specs.Framing.{Piece, pieces_of}
 use Rattle.paper.specs.Limits.{most_metadata, most_levels}
 use Rattle.paper.specs.Metadata.{Dictionary, dictionary_of}
-use Rattle.paper.specs.Rows.{Place, Row, place_within, place_by, place_under, row_parts, row_of}
+use Rattle.paper.specs.Rows.{Place, place_within, place_by, place_under, row_parts, row_of}
 use Rattle.paper.specs.Rules.{place_lawful, row_lawful}
 use Rattle.paper.specs.Schemas.{Schema}
 use Rattle.paper.specs.Words.{at, part, given, and_then}
-use Rattle.frames.proofs.FrameLaws.{pieces_by, pieces_at, pieces_ended, frame_cut, frame_ends, frame_fits, TwoFrames, two_frames}
+use Rattle.frames.proofs.FrameLaws.{pieces_by, pieces_at, pieces_ended, frame_cut, frame_ends, frame_fits, two_frames}
 use Rattle.places.proofs.PartLaws.{ends, pieces_first, pieces_second, two_pieces, some_piece}
 use Rattle.places.proofs.VerdictLaws.{place_under_lem}
 use Rattle.places.specs.Halves.{middle_in, middle_of, halves_of}
 use Rattle.places.specs.Verdicts.{verdict_of, place_verdict, row_verdict}
-use Rattle.places.specs.declared.verdicts.Verdict.TheVariants.{Lawful, Broken, Unparsed}
-use Rattle.places.specs.declared.verdicts.Verdict.{Verdict}
+use Rattle.places.specs.declared.verdicts.Verdict.TheVariants.{Unparsed}
 
 -- ---- for the code
 

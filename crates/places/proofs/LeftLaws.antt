@@ -1,11 +1,11 @@
 -- A place's own rules, from the node's tag and the leftover's first byte.
-use mathlib.Core.Bool.{Bool, true, false, cond, not, ◌&&◌, ◌||◌}
+use mathlib.Core.Bool.{Bool, true, false, not, ◌&&◌, ◌||◌}
 use mathlib.Core.List.{List}
 use mathlib.Core.Option.{Option, none, some}
 use mathlib.Core.Path.{◌≡◌, refl, sym, ap, ◌∙◌}
 use Prim.Native.Nat.{ℕ, ◌+◌, ◌-◌, ◌%◌, ◌≤◌, ◌<◌}
 use native.Mathlib.Omega.{arith}
-use borrow.Author.Tests.{eq-eqb, ne_eqb, le-leb, lt-leb, leb-true, not-true, not-false}
+use borrow.Author.Tests.{ne_eqb, le-leb, lt-leb, leb-true, not-true, not-false}
 use lib.Dec.{leb, eqb}
 use lib.ListN.{length}
 use Rattle.clashes.specs.Shared.{SomeFields}
@@ -16,7 +16,7 @@ use Rattle.paper.specs.Limits.{most_leftover}
 use Rattle.paper.specs.Meaning.{Doc}
 use Rattle.paper.specs.Metadata.{Dictionary, names_in}
 use Rattle.paper.specs.Rows.{leftover_meaning}
-use Rattle.paper.specs.Rules.{is_object, is_array, is_fields_node, is_list_node, named_by, has_any}
+use Rattle.paper.specs.Rules.{is_fields_node, is_list_node, named_by, has_any}
 use Rattle.paper.specs.Schemas.{Schema, leftover_only, column, list, fields, SchemaFields, column_names}
 use Rattle.paper.specs.Values.{meaning_of}
 use Rattle.paper.specs.Words.{at, given, is_there}
@@ -24,13 +24,13 @@ use Rattle.paths.specs.Places.{LawfulIn}
 use Rattle.schemas.specs.Frames.{frame_end}
 use Rattle.schemas.specs.Positions.{Stands, FieldsStand}
 use Rattle.clashes.proofs.LeftKindLaws.{left_kind}
-use Rattle.paper.proofs.WordLaws.{never, given_some, there_some, some_there, there_given}
+use Rattle.paper.proofs.WordLaws.{never, given_some, there_some, some_there}
 use Rattle.paths.proofs.LawfulLaws.{lawful_some}
 use Rattle.schemas.proofs.StandingLaws.{NodeAt, leftover_at, column_at, list_at, fields_at, node_at, object_stands}
 use Rattle.places.specs.Leftovers.{left_broken, left_broken_at, beside_broken, with_left}
 use Rattle.places.specs.Walking.{LeftReady, BesideReady}
 use Rattle.places.specs.Verdicts.{broken_if}
-use Rattle.places.specs.declared.verdicts.Verdict.TheVariants.{Lawful, Broken, Unparsed}
+use Rattle.places.specs.declared.verdicts.Verdict.TheVariants.{Lawful, Unparsed}
 use Rattle.places.specs.declared.verdicts.Verdict.{Verdict}
 
 -- ---- the kinds of node and leftover

@@ -10,10 +10,10 @@ use lib.Dec.{eqb}
 use lib.ListN.{length}
 use Rattle.frames.specs.Frames.{piece_in}
 use Rattle.paper.specs.Framing.{Piece, pieces_of}
-use Rattle.paper.specs.Meaning.{Doc, null, scalar, array, object}
+use Rattle.paper.specs.Meaning.{Doc}
 use Rattle.paper.specs.Metadata.{Dictionary}
-use Rattle.paper.specs.Rows.{Place, empty, leftover, typed, both, Typed, leftover_meaning, place_parts, place_by, place_within, place_under}
-use Rattle.paper.specs.Rules.{has_leftover, has_typed, leftover_of, is_object, is_array, is_fields_node, is_list_node, named_by, has_any, breaks_a, breaks_b, breaks_c, breaks_d, breaks_e, inside_lawful, place_lawful_by, place_lawful}
+use Rattle.paper.specs.Rows.{leftover, typed, both, Typed, leftover_meaning, place_parts, place_by, place_within}
+use Rattle.paper.specs.Rules.{has_leftover, has_typed, leftover_of, is_object, is_array, is_fields_node, is_list_node, named_by, has_any, breaks_a, breaks_b, breaks_c, breaks_d, inside_lawful, place_lawful_by}
 use Rattle.paper.specs.Schemas.{Schema}
 use Rattle.paper.specs.Words.{at, part, given, and_then}
 use Rattle.frames.proofs.FrameLaws.{OneFrame, one_frame, TwoFrames, two_frames, pieces_end_is, pieces_ended}
@@ -24,7 +24,6 @@ use Rattle.places.specs.Verdicts.{verdict_of, typed_under, typed_lawful, typed_v
 use Rattle.places.specs.declared.parts.Parts.TheVariants.{Empty, Leftover, Typed as TypedPart, Both, Unframed}
 use Rattle.places.specs.declared.parts.Parts.{Parts}
 use Rattle.places.specs.declared.verdicts.Verdict.TheVariants.{Lawful, Broken, Unparsed}
-use Rattle.places.specs.declared.verdicts.Verdict.{Verdict}
 
 -- ---- from the parts to the pieces
 

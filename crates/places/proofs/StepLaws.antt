@@ -1,20 +1,20 @@
 -- Inner places one at a time: the verdict of those from a position on, by the first of them and those behind it.
 use mathlib.Core.Bool.{Bool, true, false, cond, not, ◌&&◌, ◌||◌}
-use mathlib.Core.List.{List, [], ◌∷◌}
+use mathlib.Core.List.{List, ◌∷◌}
 use mathlib.Core.Option.{Option, none, some}
 use mathlib.Core.Path.{◌≡◌, refl, sym, ap, ◌∙◌}
 use Prim.Native.Nat.{ℕ, ◌+◌, ◌-◌, ◌≤◌, ◌<◌}
 use native.Mathlib.Omega.{arith}
 use borrow.Author.Tests.{eq-eqb, ne_eqb, eqb-true, eqb-false}
 use lib.Dec.{eqb}
-use lib.ListN.{length, take, drop, length-take, length-drop}
+use lib.ListN.{length, drop, length-take, length-drop}
 use Rattle.frames.specs.Frames.{frame_end, frame_by, frame_at, piece_in}
 use Rattle.frames.specs.declared.Frame.TheVariants.{Ends, Cut}
 use Rattle.frames.specs.declared.Frame.{Frame}
 use Rattle.paper.specs.Framing.{Piece, pieces_of}
 use Rattle.paper.specs.Meaning.{Doc}
 use Rattle.paper.specs.Metadata.{Dictionary}
-use Rattle.paper.specs.Rows.{Place, empty, leftover, typed, both, Typed, Places, no_places, leftover_meaning, place_parts, place_by, place_within, place_under, list_places, field_places}
+use Rattle.paper.specs.Rows.{Place, empty, leftover, typed, both, Typed, Places, leftover_meaning, place_parts, place_by, place_within, place_under, list_places, field_places}
 use Rattle.paper.specs.Rules.{has_leftover, has_typed, breaks_e, breaks_f, elements_lawful, fields_lawful, place_lawful}
 use Rattle.paper.specs.Schemas.{Schema, SchemaFields, none_named, named}
 use Rattle.paper.specs.Words.{at, part, given, and_then, among, is_there}

@@ -1,19 +1,18 @@
 -- Verdicts put together: a place by what is typed in it, a list's and an object's places one after another.
 use mathlib.Core.Bool.{Bool, true, false, cond, not, ◌&&◌}
-use mathlib.Core.List.{List, [], ◌∷◌}
+use mathlib.Core.List.{List, ◌∷◌}
 use mathlib.Core.Option.{Option, none, some}
-use mathlib.Core.Path.{◌≡◌, refl, sym, ap, ◌∙◌}
+use mathlib.Core.Path.{◌≡◌, refl, sym}
 use Prim.Native.Nat.{ℕ, ◌-◌}
 use borrow.Author.Tests.{not-false}
-use lib.ListN.{length, drop}
 use Rattle.paper.specs.Framing.{Piece, pieces_of}
 use Rattle.paper.specs.Metadata.{Dictionary}
-use Rattle.paper.specs.Rows.{Place, Typed, inner, Places, no_places, place, place_under, place_within, inner_body, list_places, field_places}
+use Rattle.paper.specs.Rows.{Place, inner, Places, place, place_under, place_within, inner_body, list_places, field_places}
 use Rattle.paper.specs.Rules.{breaks_e, breaks_f, inner_lawful, elements_lawful, fields_lawful, place_lawful, place_lawful_by}
-use Rattle.paper.specs.Schemas.{Schema, leftover_only, column, list, fields, SchemaFields, none_named, named}
+use Rattle.paper.specs.Schemas.{Schema, leftover_only, column, list, fields, SchemaFields, named}
 use Rattle.paper.specs.Words.{and_then}
 use Rattle.paper.proofs.WordLaws.{never}
-use Rattle.places.specs.Verdicts.{verdict_of, typed_under, typed_lawful, typed_verdict, place_verdict, elements_verdict, members_verdict, worse, broken_if}
+use Rattle.places.specs.Verdicts.{verdict_of, typed_under, typed_lawful, typed_verdict, elements_verdict, members_verdict, worse, broken_if}
 use Rattle.places.specs.declared.verdicts.Verdict.TheVariants.{Lawful, Broken, Unparsed}
 use Rattle.places.specs.declared.verdicts.Verdict.{Verdict}
 

@@ -1,7 +1,7 @@
 -- A turn over an object's members, for one reading of it: a member is named by the fields that are left, or it is noted. What stands
 -- in the tables, and what those fields leave of the members that are left, make all that is left over.
 use mathlib.Core.Bool.{true, false, ◌&&◌}
-use mathlib.Core.List.{List, [], ◌++◌, map}
+use mathlib.Core.List.{List, ◌++◌, map}
 use mathlib.Core.Path.{◌≡◌, ap, ◌∙◌}
 use Prim.Native.Nat.{ℕ, ◌+◌, ◌*◌, ◌≤◌, ◌<◌}
 use native.Mathlib.Omega.{arith}

@@ -1,8 +1,8 @@
 -- A row opened and judged: each answer by the tests that led there.
 use mathlib.Core.Bool.{Bool, true, false, not}
 use mathlib.Core.List.{List}
-use mathlib.Core.Option.{Option, none, some}
-use mathlib.Core.Path.{◌≡◌, refl, sym, ap, ◌∙◌}
+use mathlib.Core.Option.{some}
+use mathlib.Core.Path.{◌≡◌, sym, ◌∙◌}
 use Prim.Native.Nat.{ℕ, ◌+◌, ◌-◌, ◌/◌, ◌≤◌, ◌<◌}
 use native.Mathlib.Omega.{arith}
 use borrow.Author.Tests.{not-true}
@@ -26,15 +26,14 @@ use Rattle.names.proofs.FewLaws.{names_few}
 use Rattle.paper.proofs.WordLaws.{never, there_some}
 use Rattle.schemas.specs.Positions.{Stands}
 use Rattle.schemas.proofs.StandingLaws.{schema_stands}
-use Rattle.places.proofs.HalfLaws.{Halves, halved, unhalved, metadata_size, row_other_tag, row_long_metadata, row_bad_metadata, row_other_place, row_place}
+use Rattle.places.proofs.HalfLaws.{Halves, halved, unhalved, row_other_tag, row_long_metadata, row_bad_metadata, row_other_place, row_place}
 use Rattle.places.specs.Halves.{halves_of}
-use Rattle.rows.specs.Judging.{metadata_of, outermost_of, InOrder, OpenedAs, opened as opened_row, unopened, RowReady, TableTells, Walked, HandedOn, verdict_in, JudgedAs}
+use Rattle.rows.specs.Judging.{metadata_of, outermost_of, InOrder, OpenedAs, opened as opened_row, unopened, RowReady, TableTells, Walked, JudgedAs}
 use Rattle.places.specs.Verdicts.{place_verdict, row_verdict}
 use Rattle.places.specs.Walking.{NodeReady}
 use Rattle.rows.specs.declared.judging.Opening.TheVariants.{At, Cut}
 use Rattle.rows.specs.declared.judging.Opening.{Opening}
 use Rattle.rows.specs.declared.judging.RowJudged.TheVariants as judged
-use Rattle.rows.specs.declared.judging.RowJudged.{RowJudged}
 use Rattle.rows.specs.declared.judging.RowParts.{RowParts}
 use Rattle.places.specs.declared.verdicts.Verdict.TheVariants.{Lawful, Broken, Unparsed}
 use Rattle.places.specs.declared.verdicts.Verdict.{Verdict}

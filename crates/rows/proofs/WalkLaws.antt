@@ -6,26 +6,21 @@ use mathlib.Core.Option.{Option, none, some}
 use mathlib.Core.Path.{◌≡◌, refl, sym, ap, ◌∙◌}
 use Prim.Native.Nat.{ℕ, ◌+◌, ◌-◌, ◌/◌, ◌≤◌, ◌<◌}
 use native.Mathlib.Omega.{arith}
-use borrow.Author.Tests.{eqb-true, eqb-false, lt-ltb, le-ltb, not-false}
+use borrow.Author.Tests.{eqb-true, eqb-false, lt-ltb, le-ltb}
 use lib.Dec.{eqb, ltb}
-use lib.ListN.{length, get_or, take, drop}
-use lib.Seq.{take_all}
-use Rattle.dictionary.specs.Judging.{Opened}
+use lib.ListN.{length, drop}
 use Rattle.dictionary.specs.declared.Names.{Names}
-use Rattle.dictionary.specs.declared.ids.InputId.{InputId}
-use Rattle.fields.specs.Telling.{entry_place, looked_at, Told, FieldsTold}
+use Rattle.fields.specs.Telling.{entry_place, looked_at, FieldsTold}
 use Rattle.frames.specs.declared.Frame.TheVariants.{Ends, Cut}
 use Rattle.frames.specs.declared.Frame.{Frame}
-use Rattle.heads.specs.Packing.{Readings}
 use Rattle.lookup.specs.Looking.{Tells, found, missing}
-use Rattle.lookup.specs.declared.Looked.TheVariants.{At, Nowhere}
 use Rattle.lookup.specs.declared.Looked.{Looked}
 use Rattle.paper.specs.Cells.{cell_meaning}
 use Rattle.paper.specs.Meaning.{Scalar}
 use Rattle.paper.specs.Metadata.{Dictionary, names_in}
 use Rattle.paper.specs.Rows.{cell, no_body, cell_body}
 use Rattle.paper.specs.Rules.{cell_lawful}
-use Rattle.paper.specs.Schemas.{Column, Schema, leftover_only, column, list, fields, SchemaFields, none_named, named, column_code}
+use Rattle.paper.specs.Schemas.{Column, Schema, SchemaFields, named, column_code}
 use Rattle.paper.specs.Words.{part, among, and_then, is_there}
 use Rattle.schemas.specs.Frames.{frame_end}
 use Rattle.schemas.specs.Kinds.{kind_at, KindThere}
@@ -35,16 +30,15 @@ use Rattle.schemas.specs.declared.readers.Kind.{Kind}
 use Rattle.fields.proofs.EntryLaws.{entry_there}
 use Rattle.fields.proofs.TellingLaws.{FirstTold, element_told, fields_told, field_told_lem}
 use Rattle.names.proofs.SameLaws.{among_at}
-use Rattle.paper.proofs.WordLaws.{never}
-use Rattle.schemas.proofs.FieldsStandLaws.{FirstField, FieldStands, first_field, no_field, one_list}
+use Rattle.schemas.proofs.FieldsStandLaws.{FirstField, first_field, no_field, one_list}
 use Rattle.schemas.proofs.KindLaws.{kind_there, leftover_here_lem, column_here_lem, list_here_lem, object_here}
-use Rattle.schemas.proofs.StandingLaws.{ListStands, ObjectStands, one_stands, some_level}
+use Rattle.schemas.proofs.StandingLaws.{some_level}
 use Rattle.places.proofs.StepLaws.{place_cut, place_ends, place_fits, elements_ended, elements_cut, elements_next, members_ended, members_more, members_few, members_cut, members_next}
 use Rattle.places.proofs.VerdictLaws.{typed_list, typed_fields, worse_unparsed, worse_lawful, worse_assoc}
-use Rattle.places.specs.Frames.{place_end, place_frame}
+use Rattle.places.specs.Frames.{place_frame}
 use Rattle.places.specs.Verdicts.{verdict_of, typed_under, typed_lawful, typed_verdict, place_verdict, elements_verdict, members_verdict, worse, broken_if}
 use Rattle.places.specs.Walking.{NodeReady, FieldsReady, LeftReady, is_nowhere}
-use Rattle.places.specs.declared.verdicts.Verdict.TheVariants.{Lawful, Broken, Unparsed}
+use Rattle.places.specs.declared.verdicts.Verdict.TheVariants.{Lawful, Unparsed}
 use Rattle.places.specs.declared.verdicts.Verdict.{Verdict}
 
 -- What the rules of a leftover are judged by.

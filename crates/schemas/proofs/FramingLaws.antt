@@ -9,7 +9,7 @@ use borrow.Author.Tests.{leb-true, leb-false}
 use lib.Dec.{leb}
 use lib.ListN.{length}
 use Rattle.paper.specs.Framing.{Piece, pieces_of, only, one_piece}
-use Rattle.paper.specs.Words.{at, part, given, and_then}
+use Rattle.paper.specs.Words.{part, given, and_then}
 use Rattle.frames.proofs.PieceLaws.{pieces_none, piece_then, pieces_next, pieces_between}
 use Rattle.paper.proofs.WordLaws.{and_both}
 use Rattle.schemas.specs.Frames.{frame_end, piece_at, frame_within}

@@ -10,7 +10,7 @@ use lib.Dec.{leb, ltb, eqb}
 use lib.ListN.{length, get_or, drop}
 use Rattle.forms.proofs.WellFormedLaws.{decoded-well_formed}
 use Rattle.forms.specs.WellFormed.{well_formed}
-use Rattle.handing.specs.Handing.{RowAnswered, Normalised, no_names, Alone}
+use Rattle.handing.specs.Handing.{RowAnswered, no_names, Alone}
 use Rattle.marking.specs.Ids.{ids_by, ids_in, holds}
 use Rattle.members.proofs.OpenLaws.{no_array, no_object}
 use Rattle.normalise.specs.Answered.{Lent}
@@ -18,7 +18,7 @@ use Rattle.dictionary.specs.declared.Names.{Names}
 use Rattle.paper.proofs.WordLaws.{never, and_both, there_some}
 use Rattle.numbers.specs.Little.{number_bytes, width_within, smallest_width}
 use Rattle.paper.specs.FirstBytes.{length_prefixed, payload_sizes, primitive_reading, kind_reading, reading_of}
-use Rattle.paper.specs.Limits.{most_levels, most_metadata, most_schema, most_value}
+use Rattle.paper.specs.Limits.{most_levels, most_schema}
 use Rattle.paper.specs.Meaning.{Doc, null, scalar, array, object, Docs, Fields}
 use Rattle.paper.specs.Metadata.{Dictionary, names_in}
 use Rattle.paper.specs.Normal.{add_names, names_used, id_of, offsets_from, numbers_bytes, metadata_width, metadata_bytes, value_bytes}

@@ -15,7 +15,7 @@ use Rattle.paper.specs.Bounds.{most_walked}
 use Rattle.paper.proofs.MeaningLaws.{string_is, prefixed_is}
 use Rattle.paper.proofs.WordLaws.{never, given_some, then_some, some_there}
 use Rattle.paper.specs.FirstBytes.{reading_of}
-use Rattle.paper.specs.Meaning.{Doc, scalar, text, array, object, Docs, no_docs, doc, Fields, no_fields, field}
+use Rattle.paper.specs.Meaning.{Doc, array, object, Docs, no_docs, doc, Fields, no_fields, field}
 use Rattle.paper.specs.Metadata.{Dictionary}
 use Rattle.paper.specs.Normal.{id_of, field_names, value_bytes, element_bytes, member_bytes}
 use Rattle.numbers.specs.Little.{number_at}

@@ -9,7 +9,7 @@ use Rattle.building.proofs.CallLaws.{member_known, member_in, member_leftover, m
 use Rattle.building.proofs.LeftLaws.{left_read, left_container}
 use Rattle.building.proofs.ListLaws.{list_noting, list_start, list_in, list_frame_in, list_whole, list_fits, list-place_ready, list_full, list_next, list_lying, list_few, list_put}
 use Rattle.building.proofs.NotedLaws.{noted_start, noted_in, noted_member, noted_full, noted_next, noted_lying, noted_few, noted-ids_in, noted_ranked, noted_put}
-use Rattle.building.proofs.ObjectLaws.{left_begins, no_other, object_some, object_run, object_sizes, object_put, object_notes}
+use Rattle.building.proofs.ObjectLaws.{left_begins, object_some, object_run, object_sizes, object_put, object_notes}
 use Rattle.building.proofs.PlacedLaws.{placed_empty, placed_left, placed_typed, placed_both, put_cell, put_list, put_fields}
 use Rattle.building.proofs.ReadyLaws.{alone_ready, only_ready, beside_ready, elements_ready, members_ready}
 use Rattle.building.proofs.builder.+list_places_member_noted_places_object_places_place_typed.Goals as goal

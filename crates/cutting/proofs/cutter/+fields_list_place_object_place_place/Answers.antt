@@ -4,9 +4,9 @@ use borrow.Author.Rules.{rules}
 use mathlib.Core.Path.{refl, sym, ◌∙◌}
 use Rattle.putting.proofs.PutLaws.{told_length, told_room}
 use Rattle.cutting.proofs.FieldsLaws.{fields_none, first_run, first_in_table, first_framed, first_named, first_falls, here_run, next_ready, fields_full, put_missing, member_part-there, member_ready, put_member}
-use Rattle.cutting.proofs.ListLaws.{no_other, list_first, put-no_array, list_container, list_start, list_there, element_ready, list_full, list_next, list_put}
+use Rattle.cutting.proofs.ListLaws.{list_first, put-no_array, list_container, list_start, list_there, element_ready, list_full, list_next, list_put}
 use Rattle.cutting.proofs.NodeLaws.{node_kind, node_level, node_framed, node_headed, put_leftover, put_column, list_ready, put_list, object_ready, put_object}
-use Rattle.cutting.proofs.ObjectLaws.{object_first, put-no_object, object_container, other_tag, places_asked, typed_asked, left_asked, fields_ready, rest_ready, places_full, typed_full, left_full, object_put}
+use Rattle.cutting.proofs.ObjectLaws.{object_first, put-no_object, object_container, places_asked, typed_asked, left_asked, fields_ready, rest_ready, places_full, typed_full, left_full, object_put}
 use Rattle.cutting.proofs.MissingLaws.{some_fields, put_all_missing}
 use Rattle.cutting.proofs.cutter.+fields_list_place_object_place_place.Goals as goal
 

@@ -2,7 +2,7 @@ use Prim.Native.Nat.{◌-◌}
 use mathlib.Core.Path.{refl, sym, ◌∙◌}
 use native.Mathlib.Omega.{arith}
 use borrow.Author.Rules.{rules}
-use lib.ListN.{length, length-take, length-drop}
+use lib.ListN.{length-take, length-drop}
 use Rattle.places.proofs.PlaceLaws.{told_by, one_long, typed_long, both_long, place_empty, place_unframed, place_left, place_typed, place_both}
 use Rattle.rows.proofs.QuickLaws.{some_node}
 use Rattle.rows.proofs.WalkLaws.{left_ready_lem, typed_none, typed_cell, typed_elements, typed_members, ready_kind, ready_level, ready_frame, ready_code, ready_element, ready_fields, list_start, list_done, list_cut, list_fits, list_next, fields_start, fields_more, fields_done, field_node-in, field_frame_in, field_entry, field_ready, fields_few, fields_cut, fields_fit, fields_next}
