@@ -10,17 +10,12 @@ mod saying;
 mod showing;
 
 use std::io;
-use std::io::{BufWriter, Read, Write};
 
 // So much of the input is read as lots; what lies behind is left out.
 const MOST_TEXT: usize = 65536;
 
 fn main(rt: HostRuntime) -> io::Result<()> {
-    let alloc = rt.alloc();
-    let mut text = Vec::new(alloc);
-    rt.reader().read_to_end(&mut text)?;
-    let mut out = BufWriter::new(alloc, io::writer(&rt))?;
-    let end = text.len().min(MOST_TEXT);
-    lots::answer_all(&mut out, &text[..end])?;
-    out.flush()
+    let mut text = [0u8; MOST_TEXT];
+    let size = reading::read_full(&mut rt.reader(), &mut text)?;
+    lots::answer_all(&mut io::writer(&rt), &text[..size])
 }

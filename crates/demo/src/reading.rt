@@ -1,7 +1,24 @@
 // Lines, words and hex digits.
-ghost use Rattle.std.specs.Prelude.{◌<◌, ◌≤◌, length};
+ghost use Rattle.std.specs.Prelude.{◌<◌, ◌≤◌, length, IfOk};
 
 use order::Order;
+use std::io;
+use std::io::Read;
+
+// Reads until the buffer is full or the input ends: how many bytes came.
+pub fn read_full(from: &mut impl Read, out: &mut [u8]) -> io::Result<usize>
+    ensures { IfOk result (λ n. n ≤ length out.new) }
+{
+    let mut done = 0;
+    while done < out.len() {
+        let n = from.read(&mut out[done..])?;
+        if n == 0 {
+            break;
+        }
+        done += n;
+    }
+    Ok(done)
+}
 
 // The first place from `from` on where a mark stands; the end if there is none.
 pub fn upto(text: &[u8], from: usize, mark: u8) -> usize
