@@ -84,8 +84,9 @@ def from_kit():
     return names
 
 
-# Where the rule would give a name that is too near another one: a variable `columns` beside a constructor `no_columns`.
-OTHERWISE = {"noColumns": "none_named"}
+# Where the rule would give a name that is too near another one, a variable `columns` beside a constructor `no_columns`, or that stands
+# already, a record `RowDone`.
+OTHERWISE = {"noColumns": "none_named", "Row-Done": "RowsDone"}
 # A fact whose name is that of a function in another crate.
 IN_ONE_FILE = {os.path.join("paper", "specs", "Lots.antt"): {"holds": "Holds"}}
 
@@ -124,6 +125,10 @@ def table():
     for name in sorted(facts):
         if name not in new and name not in kit and re.fullmatch(r"[a-z][a-z0-9-]*'*", name):
             new[name] = "".join(w[0].upper() + w[1:] for w in name.split("-"))
+    # facts with dashes
+    for name in sorted(everything):
+        if re.fullmatch(r"[A-Z][a-z]+(?:-[A-Z][a-z]+)+", name) and name not in kit:
+            new[name] = name.replace("-", "")
     # definitions with dashes
     for name in sorted(specs - facts - kit):
         if re.fullmatch(r"[a-z0-9]+(?:[-_][a-z0-9]+)+'*", name):

@@ -28,7 +28,7 @@ use Rattle.paper.specs.declared.LotBox.{LotBox}
 use Rattle.paper.specs.declared.RowAnswer.{RowAnswer}
 use Rattle.paper.specs.declared.Refusal.TheVariants.{TooLong, BadMetadata, BadValue, BadSchema, BadPath, BadRow, BrokenRule, TooLarge}
 use Rattle.promises.specs.Tables.{Line, ◌when◌, GivenExactly, of_it}
-use Rattle.promises.specs.AnyBytes.{longer, document_too_long, metadata_broken, value_broken, schema_broken, code_broken, path_broken, row_unparsed, cell_broken, rule_broken, document_of, rebuilt_of, normal_too_large, row_longer, buffers_short, check_table, find_table, normalise_table, shred_table, rebuild_table, judge_table, cell_table, box_table, Check-Exactly-When, Find-Exactly-When, Normalise-Exactly-When, Shred-Exactly-When, Rebuild-Exactly-When, Judge-Exactly-When, Cell-Exactly-When, Box-Exactly-When}
+use Rattle.promises.specs.AnyBytes.{longer, document_too_long, metadata_broken, value_broken, schema_broken, code_broken, path_broken, row_unparsed, cell_broken, rule_broken, document_of, rebuilt_of, normal_too_large, row_longer, buffers_short, check_table, find_table, normalise_table, shred_table, rebuild_table, judge_table, cell_table, box_table, CheckExactlyWhen, FindExactlyWhen, NormaliseExactlyWhen, ShredExactlyWhen, RebuildExactlyWhen, JudgeExactlyWhen, CellExactlyWhen, BoxExactlyWhen}
 use Rattle.promises.proofs.TableLaws.{rise, first_given, comes_to, Gives, require_line, obtain_line, nothing_left, last_line, longer_not, either_not}
 
 -- ---- inputs too long, and a lent document judged
@@ -63,7 +63,7 @@ unfolding checked_by comes_to
 checked_number (refused r) = refl
 checked_number (reached a) = refl
 
-pub check_exactly_when : Check-Exactly-When
+pub check_exactly_when : CheckExactlyWhen
 unfolding check_answer check_outcome check_table rise
 check_exactly_when metadata value =
     exactly _ (checked_number (check_outcome metadata value))
@@ -79,7 +79,7 @@ found_number (refused r) = refl
 found_number (reached none) = refl
 found_number (reached (some child)) = refl
 
-pub find_exactly_when : Find-Exactly-When
+pub find_exactly_when : FindExactlyWhen
 unfolding find_answer find_outcome find_table path_broken rise
 find_exactly_when metadata value path =
     exactly _ (found_number (find_outcome metadata value path))
@@ -126,7 +126,7 @@ document_is : (metadata value : List ℕ) (names : Dictionary) (d : Doc) → dic
 unfolding document_of and_then
 document_is metadata value names d names-is d-is = rw (names-is, d-is)
 
-pub normalise_exactly_when : Normalise-Exactly-When
+pub normalise_exactly_when : NormaliseExactlyWhen
 unfolding normalise_outcome normalise_table rise
 normalise_exactly_when metadata value metadata_room value_room =
     exactly _ (document_number metadata_room value_room (normalise_outcome metadata value))
@@ -147,7 +147,7 @@ row_number room (reached row) = go (leb (length row) room)
     go true = refl
     go false = refl
 
-pub shred_exactly_when : Shred-Exactly-When
+pub shred_exactly_when : ShredExactlyWhen
 unfolding shred_outcome row_outcome shred_table schema_broken normal_too_large row_longer of_it writable rise
 shred_exactly_when schema metadata value room =
     exactly _ (row_number room (shred_outcome schema metadata value))
@@ -182,7 +182,7 @@ row_lines schema row next goes =
     obtain_line BadRow (row_of node row) _ (rw node_is) _ λ parsed parsed-is.
     require_line BrokenRule (row_lawful node parsed) _ (rw (node_is, parsed-is)) _ λ lawful. goes node parsed node_is parsed-is lawful
 
-pub rebuild_exactly_when : Rebuild-Exactly-When
+pub rebuild_exactly_when : RebuildExactlyWhen
 unfolding rebuild_outcome rebuild_table rise
 rebuild_exactly_when schema row metadata_room value_room =
     exactly _ (document_number metadata_room value_room (rebuild_outcome schema row))
@@ -190,7 +190,7 @@ rebuild_exactly_when schema row metadata_room value_room =
     written_lines metadata_room value_room (rebuilt_of schema row) (row_meaning node parsed) (rebuilt_is schema row node parsed node_is parsed-is lawful))
     refl
 
-pub judge_exactly_when : Judge-Exactly-When
+pub judge_exactly_when : JudgeExactlyWhen
 unfolding judge_answer judge_table rise
 judge_exactly_when schema row =
     exactly _ (checked_number (row_judged schema row λ node parsed. reached parsed))
@@ -204,7 +204,7 @@ unfolding cell_read_by comes_to
 cell_number (refused r) = refl
 cell_number (reached cell) = refl
 
-pub cell_exactly_when : Cell-Exactly-When
+pub cell_exactly_when : CellExactlyWhen
 unfolding cell_answer cell_outcome cell_table code_broken cell_broken of_it rise
 cell_exactly_when code cell =
     exactly _ (cell_number (cell_outcome code cell))
@@ -219,7 +219,7 @@ box_number (refused r) = refl
 box_number (reached none) = refl
 box_number (reached (some box)) = refl
 
-pub box_exactly_when : Box-Exactly-When
+pub box_exactly_when : BoxExactlyWhen
 unfolding box_answer box_outcome box_table rise
 box_exactly_when metadata value =
     exactly _ (box_number (box_outcome metadata value))

@@ -19,7 +19,7 @@ use Rattle.paper.specs.declared.DocumentAnswer.{DocumentAnswer}
 use Rattle.paper.specs.declared.RowAnswer.{RowAnswer}
 use Rattle.paper.proofs.WordLaws.{and_both}
 use Rattle.promises.specs.AnyBytes.{longer}
-use Rattle.promises.specs.Buffers.{metadata_left, value_left, row_left, ComeFirst, Documents-Untouched, Row-Untouched, DocumentStands, Documents-Done, RowStands, Row-Done, Documents-Short, Row-Short, Zeros}
+use Rattle.promises.specs.Buffers.{metadata_left, value_left, row_left, ComeFirst, DocumentsUntouched, RowUntouched, DocumentStands, DocumentsDone, RowStands, RowsDone, DocumentsShort, RowShort, Zeros}
 use Rattle.promises.proofs.TableLaws.{longer_not, either_not}
 
 -- Bytes that have room, put over the front.
@@ -59,7 +59,7 @@ module _ (document : Document) (metadata_before value_before : List ℕ) where
         value_first = rw is (come_first document.value value_before fit.1);
       }
 
-pub documents_untouched : Documents-Untouched
+pub documents_untouched : DocumentsUntouched
 unfolding metadata_left value_left metadata_written value_written
 documents_untouched (refused r) metadata_before value_before other = (put_none metadata_before 0, put_none value_before 0)
 documents_untouched (reached document) metadata_before value_before other = untouched document metadata_before value_before _ refl other
@@ -74,7 +74,7 @@ same_done e = (cc, cc)
 same_short : {a b c d : ℕ} → DocumentAnswer.Short a b ≡ DocumentAnswer.Short c d → (c ≡ a) × (d ≡ b)
 same_short e = (cc, cc)
 
-pub documents_done : Documents-Done
+pub documents_done : DocumentsDone
 unfolding document_answer
 documents_done (refused r) metadata_before value_before metadata_size_here value_size_here e = apart cc
 documents_done (reached document) metadata_before value_before metadata_size_here value_size_here e = go (room document metadata_before value_before) refl e
@@ -86,7 +86,7 @@ documents_done (reached document) metadata_before value_before metadata_size_her
     go true is e = let sizes = same_done e in rw (sizes.0, sizes.1) (stands document metadata_before value_before is)
     go false is e = apart cc
 
-pub documents_short : Documents-Short
+pub documents_short : DocumentsShort
 unfolding document_answer document_room longer
 documents_short (refused r) metadata_room value_room metadata_size_here value_size_here e = apart cc
 documents_short (reached document) metadata_room value_room metadata_size_here value_size_here e = go _ refl e
@@ -115,12 +115,12 @@ unfolding row_answer row_left row_written
 row_go row before true is other = absurd (other (rw is))
 row_go row before false is other = rw is (put_none before 0)
 
-pub row_untouched : Row-Untouched
+pub row_untouched : RowUntouched
 unfolding row_left row_written
 row_untouched (refused r) before other = put_none before 0
 row_untouched (reached row) before other = row_go row before _ refl other
 
-pub row_done : Row-Done
+pub row_done : RowsDone
 unfolding row_answer row_left row_written
 row_done (refused r) before size e = apart cc
 row_done (reached row) before size e = go _ refl e
@@ -130,7 +130,7 @@ row_done (reached row) before size e = go _ refl e
     go true is e = record { row = row; is_reached = refl; row_size = cc; row_first = rw is (come_first row before is) }
     go false is e = apart cc
 
-pub row_short : Row-Short
+pub row_short : RowShort
 unfolding row_answer longer
 row_short (refused r) space size e = apart cc
 row_short (reached row) space size e = go _ refl e

@@ -28,7 +28,7 @@ use Rattle.written.proofs.RowLaws.{row_lawful_lem}
 use Rattle.written.proofs.ShredLaws.{Shredded, shredded, shredded_fits, shredded_back, shred_rebuilt}
 use Rattle.written.specs.Everywhere.{takes_doc, cell_taken, column_kept, column_rule}
 use Rattle.written.specs.Fitting.{cut_row}
-use Rattle.promises.specs.Columns.{Row-Reads-Back, Columns-Typed, Leftovers-Unnamed, Named-Leftover-Refused, Row-Restored}
+use Rattle.promises.specs.Columns.{RowReadsBack, ColumnsTyped, LeftoversUnnamed, NamedLeftoverRefused, RowRestored}
 use Rattle.promises.specs.Done.{Bytes, Means, Shreds}
 use Rattle.promises.specs.Tables.{of_it}
 use Rattle.promises.specs.Walking.{Stop, place_at}
@@ -38,7 +38,7 @@ use Rattle.promises.proofs.WalkingLaws.{own_kept, everywhere_at, lawful_at}
 
 -- ---- what is written is read back
 
-pub row_reads_back : Row-Reads-Back
+pub row_reads_back : RowReadsBack
 row_reads_back schema metadata value row room bytes shreds =
     let s : Shredded schema metadata value row =
     shredded schema metadata value row (row_reached (shred_outcome schema metadata value) room row shreds).0 in
@@ -93,7 +93,7 @@ seen : (schema metadata value row : List ℕ) (room : ℕ) → Shreds schema met
 seen schema metadata value row room shreds =
     shredded schema metadata value row (row_reached (shred_outcome schema metadata value) room row shreds).0
 
-pub columns_typed : Columns-Typed
+pub columns_typed : ColumnsTyped
 unfolding column_rule
 columns_typed schema metadata value row room bytes shreds node d parsed is means reads path said p found =
     let s : Shredded schema metadata value row = seen schema metadata value row room shreds in
@@ -102,7 +102,7 @@ columns_typed schema metadata value row room bytes shreds node d parsed is means
     kept_exactly said p (cut_ruled node s.document.d path stop found-cut)
     ∙ ap (λ (x : Option Doc). of_it x (takes_doc said)) (sym (cut_shown s bytes node is d means path stop found-cut))
 
-pub leftovers_unnamed : Leftovers-Unnamed
+pub leftovers_unnamed : LeftoversUnnamed
 unfolding column_rule
 leftovers_unnamed schema metadata value row room bytes shreds node parsed is reads path columns p found =
     let s : Shredded schema metadata value row = seen schema metadata value row room shreds in
@@ -134,7 +134,7 @@ unfolding rebuild_outcome row_judged require obtain
 broken_refused schema row schema_fits row_fits node parsed is reads broken =
     rw (le-leb (length schema) most_schema schema_fits, le-leb (length row) most_row row_fits, is, reads, broken)
 
-pub named_leftover_refused : Named-Leftover-Refused
+pub named_leftover_refused : NamedLeftoverRefused
 unfolding row_lawful document_answer
 named_leftover_refused schema row schema_fits row_fits node parsed is reads path columns p found has metadata_room value_room =
     rw (broken_refused schema row schema_fits row_fits node parsed is reads (broken (row_lawful node parsed) refl))
@@ -147,7 +147,7 @@ named_leftover_refused schema row schema_fits row_fits node parsed is reads path
 
 -- ---- rebuilt to the normal form
 
-pub row_restored : Row-Restored
+pub row_restored : RowRestored
 row_restored schema metadata value row room bytes shreds =
     let e = (row_reached (shred_outcome schema metadata value) room row shreds).0 in
     let s : Shredded schema metadata value row = seen schema metadata value row room shreds in

@@ -20,7 +20,7 @@ use Rattle.paper.specs.Refusals.{reached, require, obtain}
 use Rattle.paper.specs.Values.{Child, child_bytes, meaning_of}
 use Rattle.paper.specs.Words.{part}
 use Rattle.promises.specs.Done.{Means}
-use Rattle.promises.specs.Finding.{Tells, tells_of, tells_nothing, Find-Tells, Two-Screens}
+use Rattle.promises.specs.Finding.{Tells, tells_of, tells_nothing, FindTells, TwoScreens}
 use Rattle.promises.proofs.FindLaws.{FoundIn, found_nowhere, found_at, find_led}
 use Rattle.promises.proofs.Screens.{rebuilt_means, screens_agree}
 
@@ -57,7 +57,7 @@ part_means metadata value d c child e means =
     let short : length (take child.size (drop child.start value)) ≤ most_value = rw (length-take, length-drop) (omega arith) in
     rw (size, c.metadata_fits, le-leb (length (take child.size (drop child.start value))) most_value short, c.names_are, means)
 
-pub find_tells : Find-Tells
+pub find_tells : FindTells
 unfolding find_answer find_outcome document_fits judged value_judged require obtain
 find_tells metadata value path d steps means short path-is =
     let c = checked metadata value d means in
@@ -68,7 +68,7 @@ find_tells metadata value path d steps means short path-is =
     go c found_nowhere = unfold found_by in tells_nothing
     go c (found_at {child = child} {d = e} inside) = unfold found_by in tells_of (part_means metadata value d c child e inside)
 
-pub two_screens : Two-Screens
+pub two_screens : TwoScreens
 two_screens schema row metadata_room value_room form bytes rebuilds node parsed is reads path steps stop short path-is found =
     let d : Doc = row_meaning node parsed in
     let means = rebuilt_means schema row metadata_room value_room form bytes rebuilds node parsed is reads in

@@ -16,7 +16,7 @@ use Rattle.paper.specs.Rules.{place_lawful, row_lawful}
 use Rattle.paper.specs.Schemas.{Schema, schema_of}
 use Rattle.paper.specs.Standing.{Step, stands_at}
 use Rattle.schemas.proofs.GoodLaws.{schema_good}
-use Rattle.promises.specs.Screens.{shows, Screens-Agree, Rebuilt-Means}
+use Rattle.promises.specs.Screens.{shows, ScreensAgree, RebuiltMeans}
 use Rattle.promises.specs.Walking.{Stop, place_at}
 use Rattle.promises.specs.Done.{Bytes, Rebuilds}
 use Rattle.promises.proofs.DoneLaws.{document_reached}
@@ -37,11 +37,11 @@ rebuilt : (schema row : List ℕ) (metadata_room value_room : ℕ) (form : Docum
 rebuilt schema row metadata_room value_room form bytes rebuilds =
     row_rebuilds schema row form bytes (document_reached (rebuild_outcome schema row) metadata_room value_room form rebuilds).0
 
-pub rebuilt_means : Rebuilt-Means
+pub rebuilt_means : RebuiltMeans
 rebuilt_means schema row metadata_room value_room form bytes rebuilds node parsed is reads =
     (rebuilt schema row metadata_room value_room form bytes rebuilds node parsed is reads).means
 
-pub screens_agree : Screens-Agree
+pub screens_agree : ScreensAgree
 unfolding row_meaning row_lawful
 screens_agree schema row metadata_room value_room form bytes rebuilds node parsed is reads d means path stop found =
     let r : Rebuilt node parsed form = rebuilt schema row metadata_room value_room form bytes rebuilds node parsed is reads in

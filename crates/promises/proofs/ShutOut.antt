@@ -22,7 +22,7 @@ use Rattle.written.proofs.ShredLaws.{Shredded, shredded}
 use Rattle.written.specs.Everywhere.{takes_doc}
 use Rattle.written.specs.Fitting.{cut_row}
 use Rattle.promises.specs.Buffers.{ComeFirst, DocumentStands, RowStands}
-use Rattle.promises.specs.ShutOut.{every_kind, encodings, box_names, box_value, Every-Document-Accepted, Every-Kind-Accepted, Readers-Accept, No-Fixed-Row, No-Copy, Encodings-One-Row, Not-Left-Over, Done-Row-Written, Done-Form-Written}
+use Rattle.promises.specs.ShutOut.{every_kind, encodings, box_names, box_value, EveryDocumentAccepted, EveryKindAccepted, ReadersAccept, NoFixedRow, NoCopy, EncodingsOneRow, NotLeftOver, DoneRowWritten, DoneFormWritten}
 use Rattle.promises.specs.Columns.{ReadBack}
 use Rattle.promises.proofs.Buffers.{row_done, documents_done}
 use Rattle.promises.proofs.Columns.{row_reads_back}
@@ -32,28 +32,28 @@ use Rattle.promises.proofs.RebuiltLaws.{form_means}
 
 -- ---- refusing everything
 
-pub every_document_accepted : Every-Document-Accepted
+pub every_document_accepted : EveryDocumentAccepted
 every_document_accepted = form_means
 
-pub every_kind-accepted : Every-Kind-Accepted
+pub every_kind-accepted : EveryKindAccepted
 unfolding running AllHold every_kind
 every_kind-accepted = (refl, (refl, (refl, (refl, (refl, (refl, (refl, (refl, (refl, (refl, (refl, (refl, (refl, (refl, (refl, (refl, (refl, (refl, (refl, (refl, (refl, (refl, (refl, (refl, (refl, (refl, (refl, (refl, (refl, tt)))))))))))))))))))))))))))))
 
-pub readers_accept : Readers-Accept
+pub readers_accept : ReadersAccept
 unfolding running box_names box_value
 readers_accept = (refl, refl, refl)
 
 -- ---- one fixed row, copying
 
-pub no_fixed_row : No-Fixed-Row
+pub no_fixed_row : NoFixedRow
 no_fixed_row schema metadata value metadata' value' row row' room room' bytes bytes' shreds shreds' d d' means means' differ same =
     differ ((same_row_same_meaning schema metadata value metadata' value' row row' room room' bytes bytes' shreds shreds' d d' means means').0 same)
 
-pub no_copy : No-Copy
+pub no_copy : NoCopy
 no_copy schema metadata value metadata' value' row row' room room' bytes bytes' shreds shreds' d means means' =
     (same_row_same_meaning schema metadata value metadata' value' row row' room room' bytes bytes' shreds shreds' d d means means').1 refl
 
-pub encodings_one_row : Encodings-One-Row
+pub encodings_one_row : EncodingsOneRow
 unfolding running AllHold encodings
 encodings_one_row = (refl, (refl, (refl, tt)))
 
@@ -66,7 +66,7 @@ taken_cut said (scalar value) taken = let is = taken_typed said value taken in (
 taken_cut said (array ds) taken = never (sym taken)
 taken_cut said (object fs) taken = never (sym taken)
 
-pub not_left_over : Not-Left-Over
+pub not_left_over : NotLeftOver
 not_left_over schema metadata value row room bytes shreds said d parsed is means reads taken =
     let back : ReadBack schema metadata value row = row_reads_back schema metadata value row room bytes shreds in
     let node : back.node ≡ column said = some-injective back.node (column said) (sym back.schema_is ∙ is) in
@@ -80,7 +80,7 @@ not_left_over schema metadata value row room bytes shreds said d parsed is means
 stand_first : {bytes before after : List ℕ} {size : ℕ} → size ≡ length bytes → ComeFirst bytes before after → take size after ≡ bytes
 stand_first {after = after} e come = ap (λ (n : ℕ). take n after) e ∙ come.first
 
-pub done-row_written : Done-Row-Written
+pub done-row_written : DoneRowWritten
 done-row_written schema metadata value before size done node d is means =
     let outcome : Outcome (List ℕ) = shred_outcome schema metadata value in
     let stands : RowStands outcome before size = row_done outcome before size done in
@@ -90,7 +90,7 @@ done-row_written schema metadata value before size done node d is means =
     let row_is : row_bytes node d ≡ stands.row = rw (its_node, its-doc) at s.row_is in
     rw row_is (stands.row_size, stand_first stands.row_size stands.row_first)
 
-pub done_form_written : Done-Form-Written
+pub done_form_written : DoneFormWritten
 unfolding written
 done_form_written metadata value metadata_before value_before metadata_size_here value_size_here done d means =
     let outcome : Outcome Document = normalise_outcome metadata value in

@@ -12,7 +12,7 @@ use Rattle.paper.specs.Refusals.{Outcome, refused, reached, require, obtain, ref
 use Rattle.paper.specs.Words.{is_there}
 use Rattle.paper.specs.declared.Refusal.{Refusal}
 use Rattle.paper.proofs.WordLaws.{never, and_both}
-use Rattle.promises.specs.Tables.{Line, ◌when◌, condition, GivenExactly, One-Number}
+use Rattle.promises.specs.Tables.{Line, ◌when◌, condition, GivenExactly, OneNumber}
 
 -- ---- the first line that holds
 
@@ -71,7 +71,7 @@ none_below table a b given-a given-b h = go (eqb a 0) refl
         never (sym own ∙ given-a.none_holds (eqb-true a 0 e) b)
     go false e = never (sym (given-a.own_holds (eqb-false a 0 e)) ∙ given-b.no_lower a h)
 
-pub one_number : One-Number
+pub one_number : OneNumber
 one_number table a b given-a given-b = go (ltb a b) (ltb b a) refl refl
   where
     go : (p q : Bool) → ltb a b ≡ p → ltb b a ≡ q → a ≡ b

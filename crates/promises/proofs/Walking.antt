@@ -17,7 +17,7 @@ use Rattle.paper.specs.Words.{and_then, same, among}
 use Rattle.schemas.proofs.GoodLaws.{good_element, good_object, good_field, schema_good}
 use Rattle.schemas.specs.Written.{good_schema, good_fields}
 use Rattle.written.specs.Everywhere.{every_element, everywhere, every_field}
-use Rattle.promises.specs.Walking.{Stop, inner_in, inner_of, place_number, place_named, step_to, place_at, Every-Place-Reached}
+use Rattle.promises.specs.Walking.{Stop, inner_in, inner_of, place_number, place_named, step_to, place_at, EveryPlaceReached}
 use Rattle.promises.proofs.ShownLaws.{found_named}
 
 -- What holds of the inner places of a place holds of what is typed in it.
@@ -92,5 +92,5 @@ module _ (test : Schema → Place → Bool) where
         rw (reached node levels goods.0 p (first_along name node columns p ps along))
         (reached_fields columns levels goods.1 (rising_more name (column_names columns) rise) ps (others_along name node columns p ps rise along))
 
-pub every_place_reached : Every-Place-Reached
+pub every_place_reached : EveryPlaceReached
 every_place_reached test schema node p is along = reached test node most_levels (schema_good schema node is) p along

@@ -139,39 +139,39 @@ box_table metadata value =
 
 -- ---- the promises: for any bytes and any room, the number that is answered is the one that the table gives
 
-abbrev pub Check-Exactly-When : Type 0
-Check-Exactly-When =
+abbrev pub CheckExactlyWhen : Type 0
+CheckExactlyWhen =
     (metadata value : List ℕ) → GivenExactly (check_table metadata value) (number_of (checked_carries (check_answer metadata value)))
 
-abbrev pub Find-Exactly-When : Type 0
-Find-Exactly-When =
+abbrev pub FindExactlyWhen : Type 0
+FindExactlyWhen =
     (metadata value path : List ℕ)
     → GivenExactly (find_table metadata value path) (number_of (found_carries (find_answer metadata value path)))
 
-abbrev pub Normalise-Exactly-When : Type 0
-Normalise-Exactly-When =
+abbrev pub NormaliseExactlyWhen : Type 0
+NormaliseExactlyWhen =
     (metadata value : List ℕ) (metadata_room value_room : ℕ)
     → GivenExactly (normalise_table metadata value metadata_room value_room)
     (number_of (document_carries (document_answer (normalise_outcome metadata value) metadata_room value_room)))
 
-abbrev pub Shred-Exactly-When : Type 0
-Shred-Exactly-When =
+abbrev pub ShredExactlyWhen : Type 0
+ShredExactlyWhen =
     (schema metadata value : List ℕ) (room : ℕ)
     → GivenExactly (shred_table schema metadata value room) (number_of (row_carries (row_answer (shred_outcome schema metadata value) room)))
 
-abbrev pub Rebuild-Exactly-When : Type 0
-Rebuild-Exactly-When =
+abbrev pub RebuildExactlyWhen : Type 0
+RebuildExactlyWhen =
     (schema row : List ℕ) (metadata_room value_room : ℕ)
     → GivenExactly (rebuild_table schema row metadata_room value_room)
     (number_of (document_carries (document_answer (rebuild_outcome schema row) metadata_room value_room)))
 
-abbrev pub Judge-Exactly-When : Type 0
-Judge-Exactly-When =
+abbrev pub JudgeExactlyWhen : Type 0
+JudgeExactlyWhen =
     (schema row : List ℕ) → GivenExactly (judge_table schema row) (number_of (checked_carries (judge_answer schema row)))
 
-abbrev pub Cell-Exactly-When : Type 0
-Cell-Exactly-When = (code : ℕ) (cell : List ℕ) → GivenExactly (cell_table code cell) (number_of (cell_carries (cell_answer code cell)))
+abbrev pub CellExactlyWhen : Type 0
+CellExactlyWhen = (code : ℕ) (cell : List ℕ) → GivenExactly (cell_table code cell) (number_of (cell_carries (cell_answer code cell)))
 
-abbrev pub Box-Exactly-When : Type 0
-Box-Exactly-When =
+abbrev pub BoxExactlyWhen : Type 0
+BoxExactlyWhen =
     (metadata value : List ℕ) → GivenExactly (box_table metadata value) (number_of (box_carries (box_answer metadata value)))

@@ -32,14 +32,14 @@ pub record ComeFirst (bytes before after : List ℕ) : Type 0 where
 -- ---- the promises, whatever the operation came to and whatever the buffers held
 
 -- Unless the answer is done, every byte keeps its value.
-abbrev pub Documents-Untouched : Type 0
-Documents-Untouched =
+abbrev pub DocumentsUntouched : Type 0
+DocumentsUntouched =
     (outcome : Outcome Document) (metadata_before value_before : List ℕ)
     → (number_of (document_carries (document_answer outcome (length metadata_before) (length value_before))) ≡ 0 → ⊥)
     → (metadata_left outcome metadata_before value_before ≡ metadata_before) × (value_left outcome metadata_before value_before ≡ value_before)
 
-abbrev pub Row-Untouched : Type 0
-Row-Untouched =
+abbrev pub RowUntouched : Type 0
+RowUntouched =
     (outcome : Outcome (List ℕ)) (before : List ℕ) → (number_of (row_carries (row_answer outcome (length before))) ≡ 0 → ⊥)
     → row_left outcome before ≡ before
 
@@ -52,8 +52,8 @@ pub record DocumentStands (outcome : Outcome Document) (metadata_before value_be
   pub metadata_first : ComeFirst document.metadata metadata_before (metadata_left outcome metadata_before value_before)
   pub value_first : ComeFirst document.value value_before (value_left outcome metadata_before value_before)
 
-abbrev pub Documents-Done : Type 0
-Documents-Done =
+abbrev pub DocumentsDone : Type 0
+DocumentsDone =
     (outcome : Outcome Document) (metadata_before value_before : List ℕ) (metadata_size_here value_size_here : ℕ)
     → document_answer outcome (length metadata_before) (length value_before) ≡ DocumentAnswer.Done metadata_size_here value_size_here
     → DocumentStands outcome metadata_before value_before metadata_size_here value_size_here
@@ -64,21 +64,21 @@ pub record RowStands (outcome : Outcome (List ℕ)) (before : List ℕ) (size : 
   pub row_size : size ≡ length row
   pub row_first : ComeFirst row before (row_left outcome before)
 
-abbrev pub Row-Done : Type 0
-Row-Done =
+abbrev pub RowsDone : Type 0
+RowsDone =
     (outcome : Outcome (List ℕ)) (before : List ℕ) (size : ℕ) → row_answer outcome (length before) ≡ RowAnswer.Done size
     → RowStands outcome before size
 
 -- "A 9 carries the lengths needed": those of what was reached, and a buffer is shorter.
-abbrev pub Documents-Short : Type 0
-Documents-Short =
+abbrev pub DocumentsShort : Type 0
+DocumentsShort =
     (outcome : Outcome Document) (metadata_room value_room metadata_size_here value_size_here : ℕ)
     → document_answer outcome metadata_room value_room ≡ DocumentAnswer.Short metadata_size_here value_size_here
     → (document : Document) × (outcome ≡ reached document) × (metadata_size_here ≡ length document.metadata)
     × (value_size_here ≡ length document.value) × (longer document.metadata metadata_room || longer document.value value_room ≡ true)
 
-abbrev pub Row-Short : Type 0
-Row-Short =
+abbrev pub RowShort : Type 0
+RowShort =
     (outcome : Outcome (List ℕ)) (room size : ℕ) → row_answer outcome room ≡ RowAnswer.Short size
     → (row : List ℕ) × (outcome ≡ reached row) × (size ≡ length row) × (longer row room ≡ true)
 

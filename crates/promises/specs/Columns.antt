@@ -25,15 +25,15 @@ pub record ReadBack (schema metadata value row : List ℕ) : Type 0 where
   pub means : Means metadata value d
   pub reads : row_of node row ≡ some (record { names = names_used d; outermost = cut node d })
 
-abbrev pub Row-Reads-Back : Type 0
-Row-Reads-Back =
+abbrev pub RowReadsBack : Type 0
+RowReadsBack =
     (schema metadata value row : List ℕ) (room : ℕ) → Bytes metadata → Shreds schema metadata value room row
     → ReadBack schema metadata value row
 
 -- At every place under a column, at any depth: it is typed exactly when the document has a value there whose type is the column's.
 -- (A column takes a scalar of its type, and nothing else: `takes_doc`.)
-abbrev pub Columns-Typed : Type 0
-Columns-Typed =
+abbrev pub ColumnsTyped : Type 0
+ColumnsTyped =
     (schema metadata value row : List ℕ) (room : ℕ) → Bytes metadata → Shreds schema metadata value room row
     → (node : Schema) (d : Doc) (parsed : Row) → schema_of schema ≡ some node → Means metadata value d → row_of node row ≡ some parsed
     → (path : List Step) (said : Column) (p : Place)
@@ -41,8 +41,8 @@ Columns-Typed =
     → has_typed p ≡ of_it (stands_at d path) (takes_doc said)
 
 -- At every place under an object node, at any depth: no field that the node names is in the leftover.
-abbrev pub Leftovers-Unnamed : Type 0
-Leftovers-Unnamed =
+abbrev pub LeftoversUnnamed : Type 0
+LeftoversUnnamed =
     (schema metadata value row : List ℕ) (room : ℕ) → Bytes metadata → Shreds schema metadata value room row
     → (node : Schema) (parsed : Row) → schema_of schema ≡ some node → row_of node row ≡ some parsed
     → (path : List Step) (columns : SchemaFields) (p : Place)
@@ -50,8 +50,8 @@ Leftovers-Unnamed =
     → has_any (column_names columns) (leftover_of p) ≡ false
 
 -- And of any row at all that parses, whoever wrote it: if a leftover has such a field, rebuild answers 7.
-abbrev pub Named-Leftover-Refused : Type 0
-Named-Leftover-Refused =
+abbrev pub NamedLeftoverRefused : Type 0
+NamedLeftoverRefused =
     (schema row : List ℕ) → length schema ≤ most_schema → length row ≤ most_row
     → (node : Schema) (parsed : Row) → schema_of schema ≡ some node → row_of node row ≡ some parsed
     → (path : List Step) (columns : SchemaFields) (p : Place)
@@ -67,7 +67,7 @@ pub record Restored (schema metadata value row : List ℕ) : Type 0 where
   pub both : (metadata_room value_room : ℕ) → LongEnough form metadata_room value_room
       → Normalises metadata value metadata_room value_room form × Rebuilds schema row metadata_room value_room form
 
-abbrev pub Row-Restored : Type 0
-Row-Restored =
+abbrev pub RowRestored : Type 0
+RowRestored =
     (schema metadata value row : List ℕ) (room : ℕ) → Bytes metadata → Shreds schema metadata value room row
     → Restored schema metadata value row

@@ -22,15 +22,15 @@ pub data Tells (metadata value : List ℕ) : Found → Option Doc → Type 0 whe
   tells_nothing : Tells metadata value Found.Absent none
 
 -- In every lawful document, for every good path: find tells of what stands at the path.
-abbrev pub Find-Tells : Type 0
-Find-Tells =
+abbrev pub FindTells : Type 0
+FindTells =
     (metadata value path : List ℕ) (d : Doc) (steps : List Step) → Means metadata value d → length path ≤ most_path → path_of path ≡ some steps
     → Tells metadata value (find_answer metadata value path) (stands_at d steps)
 
 -- So for every row that rebuild accepts, whoever wrote it, and every good path that leads through the schema to a place: find in the
 -- rebuilt document tells of what the place shows.
-abbrev pub Two-Screens : Type 0
-Two-Screens =
+abbrev pub TwoScreens : Type 0
+TwoScreens =
     (schema row : List ℕ) (metadata_room value_room : ℕ) (form : Document) → Bytes row → Rebuilds schema row metadata_room value_room form
     → (node : Schema) (parsed : Row) → schema_of schema ≡ some node → row_of node row ≡ some parsed
     → (path : List ℕ) (steps : List Step) (stop : Stop) → length path ≤ most_path → path_of path ≡ some steps

@@ -19,16 +19,16 @@ shows (step ∷ more) stop = place_meaning stop.node stop.held
 -- For every row that rebuild accepts, whoever wrote it, and every path of names and indexes through the schema to a place: what the
 -- place shows is what stands at that path in the document that was written. So no column shows a lot that the document does not
 -- have, and the document has none there that the column does not show.
-abbrev pub Screens-Agree : Type 0
-Screens-Agree =
+abbrev pub ScreensAgree : Type 0
+ScreensAgree =
     (schema row : List ℕ) (metadata_room value_room : ℕ) (form : Document) → Bytes row → Rebuilds schema row metadata_room value_room form
     → (node : Schema) (parsed : Row) → schema_of schema ≡ some node → row_of node row ≡ some parsed
     → (d : Doc) → Means form.metadata form.value d
     → (path : List Step) (stop : Stop) → place_at node parsed.outermost path ≡ some stop → stands_at d path ≡ shows path stop
 
 -- And the document that was written is lawful: it means what the row means.
-abbrev pub Rebuilt-Means : Type 0
-Rebuilt-Means =
+abbrev pub RebuiltMeans : Type 0
+RebuiltMeans =
     (schema row : List ℕ) (metadata_room value_room : ℕ) (form : Document) → Bytes row → Rebuilds schema row metadata_room value_room form
     → (node : Schema) (parsed : Row) → schema_of schema ≡ some node → row_of node row ≡ some parsed
     → Means form.metadata form.value (row_meaning node parsed)

@@ -24,8 +24,8 @@ use Rattle.promises.specs.Done.{Bytes, Means, Shreds}
 
 -- Every document is accepted: scalars of their types and sizes, names that rise, at most 16 levels (`well_formed`), written in
 -- normal form within the limits, are read as that document.
-abbrev pub Every-Document-Accepted : Type 0
-Every-Document-Accepted =
+abbrev pub EveryDocumentAccepted : Type 0
+EveryDocumentAccepted =
     (d : Doc) → well_formed most_levels d ≡ true → length (normal_form d).metadata ≤ most_metadata → length (normal_form d).value ≤ most_value
     → Means (normal_form d).metadata (normal_form d).value d
 
@@ -67,8 +67,8 @@ every_kind =
     (0x11 ∷ 0x01 ∷ 0x00 ∷ 0x01 ∷ 0x61 ∷ []) (0x02 ∷ 0x01 ∷ 0x00 ∷ 0x00 ∷ 0x01 ∷ 0x04 ∷ [])
     ∷ []
 
-abbrev pub Every-Kind-Accepted : Type 0
-Every-Kind-Accepted = AllHold every_kind
+abbrev pub EveryKindAccepted : Type 0
+EveryKindAccepted = AllHold every_kind
 
 -- The readers too: a name that is found, a cell that is read, a box that is there (four doubles of 0 under the names, in order).
 unfoldable pub box_names : List ℕ
@@ -82,23 +82,23 @@ box_value =
     ∷ 0x1C ∷ 0 ∷ 0 ∷ 0 ∷ 0 ∷ 0 ∷ 0 ∷ 0 ∷ 0 ∷ 0x1C ∷ 0 ∷ 0 ∷ 0 ∷ 0 ∷ 0 ∷ 0 ∷ 0 ∷ 0
     ∷ 0x1C ∷ 0 ∷ 0 ∷ 0 ∷ 0 ∷ 0 ∷ 0 ∷ 0 ∷ 0 ∷ 0x1C ∷ 0 ∷ 0 ∷ 0 ∷ 0 ∷ 0 ∷ 0 ∷ 0 ∷ 0 ∷ []
 
-abbrev pub Readers-Accept : Type 0
-Readers-Accept =
+abbrev pub ReadersAccept : Type 0
+ReadersAccept =
     (present_of (found_carries (find_answer box_names box_value (0x60 ∷ 0x04 ∷ 0x00 ∷ 101 ∷ 97 ∷ 115 ∷ 116 ∷ []))) ≡ 1)
     × (present_of (cell_carries (cell_answer 1 (0x01 ∷ []))) ≡ 1) × (present_of (box_carries (box_answer box_names box_value)) ≡ 1)
 
 -- ---- one fixed row: documents that mean something else have another row.
 -- (`paper/a_column_takes_every_integer`, `paper/missing_is_null`)
-abbrev pub No-Fixed-Row : Type 0
-No-Fixed-Row =
+abbrev pub NoFixedRow : Type 0
+NoFixedRow =
     (schema metadata value metadata' value' row row' : List ℕ) (room room' : ℕ) → Bytes metadata → Bytes metadata'
     → Shreds schema metadata value room row → Shreds schema metadata' value' room' row'
     → (d d' : Doc) → Means metadata value d → Means metadata' value' d' → (d ≡ d' → ⊥) → row ≡ row' → ⊥
 
 -- ---- copying the input: two encodings of one meaning have one row, so it is not the bytes that were lent.
 -- (`normalise/input_copied`, `writing/ids_kept`)
-abbrev pub No-Copy : Type 0
-No-Copy =
+abbrev pub NoCopy : Type 0
+NoCopy =
     (schema metadata value metadata' value' row row' : List ℕ) (room room' : ℕ) → Bytes metadata → Bytes metadata'
     → Shreds schema metadata value room row → Shreds schema metadata' value' room' row'
     → (d : Doc) → Means metadata value d → Means metadata' value' d → row ≡ row'
@@ -118,13 +118,13 @@ encodings =
     ∷ shreds column_a names_a_b (0x02 ∷ 0x02 ∷ 0x00 ∷ 0x01 ∷ 0x00 ∷ 0x01 ∷ 0x02 ∷ 0x00 ∷ 0x04 ∷ []) row
     ∷ []
 
-abbrev pub Encodings-One-Row : Type 0
-Encodings-One-Row = AllHold encodings
+abbrev pub EncodingsOneRow : Type 0
+EncodingsOneRow = AllHold encodings
 
 -- ---- everything left over: under a column, a value of the column's type is typed, and nothing is left over beside it.
 -- (`paper/everything_left_over`; named fields left over too: `remainder/named_members_left`)
-abbrev pub Not-Left-Over : Type 0
-Not-Left-Over =
+abbrev pub NotLeftOver : Type 0
+NotLeftOver =
     (schema metadata value row : List ℕ) (room : ℕ) → Bytes metadata → Shreds schema metadata value room row
     → (said : Column) (d : Doc) (parsed : Row) → schema_of schema ≡ some (column said) → Means metadata value d
     → row_of (column said) row ≡ some parsed → takes_doc said d ≡ true
@@ -133,14 +133,14 @@ Not-Left-Over =
 -- ---- done with nothing written, or an invented length: what stands first in the buffer is the row of the document under the
 -- schema, and the length is its length. (`handing/done_with_nothing_written`; of normalise
 -- `naming/size_without_the_last_offset`)
-abbrev pub Done-Row-Written : Type 0
-Done-Row-Written =
+abbrev pub DoneRowWritten : Type 0
+DoneRowWritten =
     (schema metadata value before : List ℕ) (size : ℕ) → row_answer (shred_outcome schema metadata value) (length before) ≡ RowAnswer.Done size
     → (node : Schema) (d : Doc) → schema_of schema ≡ some node → Means metadata value d
     → (size ≡ length (row_bytes node d)) × (take size (row_left (shred_outcome schema metadata value) before) ≡ row_bytes node d)
 
-abbrev pub Done-Form-Written : Type 0
-Done-Form-Written =
+abbrev pub DoneFormWritten : Type 0
+DoneFormWritten =
     (metadata value metadata_before value_before : List ℕ) (metadata_size_here value_size_here : ℕ)
     → document_answer (normalise_outcome metadata value) (length metadata_before) (length value_before) ≡ DocumentAnswer.Done metadata_size_here value_size_here
     → (d : Doc) → Means metadata value d

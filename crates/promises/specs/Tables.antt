@@ -24,8 +24,8 @@ pub record GivenExactly (table : List Line) (number : ℕ) : Type 0 where
   pub none_holds : number ≡ 0 → (any : ℕ) → condition table any ≡ false
 
 -- A table gives one number.
-abbrev pub One-Number : Type 0
-One-Number = (table : List Line) (number other : ℕ) → GivenExactly table number → GivenExactly table other → number ≡ other
+abbrev pub OneNumber : Type 0
+OneNumber = (table : List Line) (number other : ℕ) → GivenExactly table number → GivenExactly table other → number ≡ other
 
 -- A test of something that may not be there. Where it is not, the test does not apply, and is no reason to refuse.
 unfoldable pub of_it : {A : Type 0} → Option A → (A → Bool) → Bool

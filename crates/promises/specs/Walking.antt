@@ -52,8 +52,8 @@ place_at node p (step ∷ more) = and_then (step_to node p step) λ next. place_
 
 -- Every place is reached: under a good schema, what holds wherever a path leads holds at a place and at all inside it. So 'at every
 -- place, at any depth' may be said by paths.
-abbrev pub Every-Place-Reached : Type 0
-Every-Place-Reached =
+abbrev pub EveryPlaceReached : Type 0
+EveryPlaceReached =
     (test : Schema → Place → Bool) (schema : List ℕ) (node : Schema) (p : Place) → schema_of schema ≡ some node
     → ((path : List Step) (stop : Stop) → place_at node p path ≡ some stop → test stop.node stop.held ≡ true)
     → everywhere test node p ≡ true
