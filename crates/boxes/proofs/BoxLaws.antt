@@ -1,44 +1,38 @@
 -- A box from its four sides: one that is missing, or is a NaN, leaves none.
+use Rattle.std.specs.Prelude.{Option, None, Some}
 use mathlib.Core.Bool.{true, false, and-false}
 use mathlib.Core.List.{List}
-use mathlib.Core.Option.{Option, none, some}
 use mathlib.Core.Path.{◌≡◌, refl, sym, ◌∙◌}
 use Prim.Native.Nat.{ℕ}
-use native.Mathlib.Omega.{arith}
 use lib.Ieee.{Float, nan, inf, fin, lt, eq, le, is_nan}
-use Rattle.boxes.specs.Sides.{side_by, box_of_sides}
-use Rattle.boxes.specs.declared.Side.TheVariants.{Double, Nothing}
-use Rattle.boxes.specs.declared.Side.{Side}
+use Rattle.boxes.specs.Sides.{side_by, box_of_sides, Means}
 use Rattle.paper.specs.Boxes.{east, north, south, west, side, box_in}
-use Rattle.paper.specs.Meaning.{Doc, object, Fields}
-use Rattle.paper.specs.Operations.{box_read_by}
-use Rattle.paper.specs.Refusals.{reached}
+use Rattle.paper.specs.Meaning.{Fields}
+use Rattle.paper.specs.Metadata.{Dictionary}
 use Rattle.paper.specs.Words.{given, and_then}
-use Rattle.paper.specs.declared.BoxAnswer.TheVariants.{Read, Absent}
-use Rattle.paper.specs.declared.BoxAnswer.{BoxAnswer}
 use Rattle.paper.specs.declared.LotBox.{LotBox}
 
 -- ---- what a side says
 
-side_some : (x : Option Float) {y : Float} → side_by x ≡ Double y → x ≡ some y
+side_some : (x : Option Float) {y : Float} → side_by x ≡ Some y → x ≡ Some y
 unfolding side_by is_nan
-side_some none e = let z : ◌≡◌ {A = ℕ} 0 1 = cc in absurd (omega arith)
-side_some (some nan) e = let z : ◌≡◌ {A = ℕ} 0 1 = cc in absurd (omega arith)
-side_some (some (inf s)) e = cc
-side_some (some (fin s m d)) e = cc
+side_some None e = cc
+side_some (Some nan) e = cc
+side_some (Some (inf s)) e = cc
+side_some (Some (fin s m d)) e = cc
 
-side_nan : (x : Float) → side_by (some x) ≡ Nothing → x ≡ nan
+side_nan : (x : Float) → side_by (Some x) ≡ None → x ≡ nan
 unfolding side_by is_nan
 side_nan nan e = refl
-side_nan (inf s) e = let z : ◌≡◌ {A = ℕ} 0 1 = cc in absurd (omega arith)
-side_nan (fin s m d) e = let z : ◌≡◌ {A = ℕ} 0 1 = cc in absurd (omega arith)
+side_nan (inf s) e = cc
+side_nan (fin s m d) e = cc
 
 -- A NaN is in no order.
-nan_left : (x y : Float) → side_by (some x) ≡ Nothing → le x y ≡ false
+nan_left : (x y : Float) → side_by (Some x) ≡ None → le x y ≡ false
 unfolding le lt eq
 nan_left x y e = rw (side_nan x e)
 
-nan_right : (x y : Float) → side_by (some y) ≡ Nothing → le x y ≡ false
+nan_right : (x y : Float) → side_by (Some y) ≡ None → le x y ≡ false
 unfolding le lt eq
 nan_right x y e = rw (side_nan y e) (go x)
   where
@@ -62,88 +56,87 @@ unfolding box_in box_from box_of_sides
 box_as fs = refl
 
 -- Each side has to be there.
-lost_east : (e n s w : Option Float) → side_by e ≡ Nothing → box_from e n s w ≡ none
+lost_east : (e n s w : Option Float) → side_by e ≡ None → box_from e n s w ≡ None
 unfolding box_from box_of_sides and_then given
-lost_east none n s w h = refl
-lost_east (some e) none s w h = refl
-lost_east (some e) (some n) none w h = refl
-lost_east (some e) (some n) (some s) none h = refl
-lost_east (some e) (some n) (some s) (some w) h = rw (nan_right w e h)
+lost_east None n s w h = refl
+lost_east (Some e) None s w h = refl
+lost_east (Some e) (Some n) None w h = refl
+lost_east (Some e) (Some n) (Some s) None h = refl
+lost_east (Some e) (Some n) (Some s) (Some w) h = rw (nan_right w e h)
 
-lost_north : (e n s w : Option Float) → side_by n ≡ Nothing → box_from e n s w ≡ none
+lost_north : (e n s w : Option Float) → side_by n ≡ None → box_from e n s w ≡ None
 unfolding box_from box_of_sides and_then given
-lost_north none n s w h = refl
-lost_north (some e) none s w h = refl
-lost_north (some e) (some n) none w h = refl
-lost_north (some e) (some n) (some s) none h = refl
-lost_north (some e) (some n) (some s) (some w) h = rw (nan_right s n h, and-false)
+lost_north None n s w h = refl
+lost_north (Some e) None s w h = refl
+lost_north (Some e) (Some n) None w h = refl
+lost_north (Some e) (Some n) (Some s) None h = refl
+lost_north (Some e) (Some n) (Some s) (Some w) h = rw (nan_right s n h, and-false)
 
-lost_south : (e n s w : Option Float) → side_by s ≡ Nothing → box_from e n s w ≡ none
+lost_south : (e n s w : Option Float) → side_by s ≡ None → box_from e n s w ≡ None
 unfolding box_from box_of_sides and_then given
-lost_south none n s w h = refl
-lost_south (some e) none s w h = refl
-lost_south (some e) (some n) none w h = refl
-lost_south (some e) (some n) (some s) none h = refl
-lost_south (some e) (some n) (some s) (some w) h = rw (nan_left s n h, and-false)
+lost_south None n s w h = refl
+lost_south (Some e) None s w h = refl
+lost_south (Some e) (Some n) None w h = refl
+lost_south (Some e) (Some n) (Some s) None h = refl
+lost_south (Some e) (Some n) (Some s) (Some w) h = rw (nan_left s n h, and-false)
 
-lost_west : (e n s w : Option Float) → side_by w ≡ Nothing → box_from e n s w ≡ none
+lost_west : (e n s w : Option Float) → side_by w ≡ None → box_from e n s w ≡ None
 unfolding box_from box_of_sides and_then given
-lost_west none n s w h = refl
-lost_west (some e) none s w h = refl
-lost_west (some e) (some n) none w h = refl
-lost_west (some e) (some n) (some s) none h = refl
-lost_west (some e) (some n) (some s) (some w) h = rw (nan_left w e h)
+lost_west None n s w h = refl
+lost_west (Some e) None s w h = refl
+lost_west (Some e) (Some n) None w h = refl
+lost_west (Some e) (Some n) (Some s) None h = refl
+lost_west (Some e) (Some n) (Some s) (Some w) h = rw (nan_left w e h)
 
 -- ---- the answers for four sides
 
 module _ (e n s w : Float) where
-  pub in_order : le w e ≡ true → le s n ≡ true → Read (record { east = e; north = n; south = s; west = w }) ≡ box_read_by (reached (box_of_sides e n s w))
-  unfolding box_read_by box_of_sides given
+  pub in_order : le w e ≡ true → le s n ≡ true → Some (record { east = e; north = n; south = s; west = w }) ≡ box_of_sides e n s w
+  unfolding box_of_sides given
   in_order h k = rw (h, k)
 
-  pub south_above : le s n ≡ false → Absent ≡ box_read_by (reached (box_of_sides e n s w))
-  unfolding box_read_by box_of_sides given
+  pub south_above : le s n ≡ false → None ≡ box_of_sides e n s w
+  unfolding box_of_sides given
   south_above k = rw (k, and-false)
 
-  pub west_above : le w e ≡ false → Absent ≡ box_read_by (reached (box_of_sides e n s w))
-  unfolding box_read_by box_of_sides given
+  pub west_above : le w e ≡ false → None ≡ box_of_sides e n s w
+  unfolding box_of_sides given
   west_above h = rw h
 
--- ---- the answers for an object: M is what it means, and what is read is told of whatever fields that are
+-- ---- the answers for an object: what is read is told of whatever fields it means
 
-module _ (M : Option Doc) where
-  abbrev SideSaid : List ℕ → Side → Type 0
-  SideSaid name r = (fs : Fields) → M ≡ some (object fs) → r ≡ side_by (side name fs)
+module _ (names : Dictionary) (ids starts area : List ℕ) where
+  abbrev SideSaid : List ℕ → Option Float → Type 0
+  SideSaid name r = (fs : Fields) → Means names ids starts area fs → r ≡ side_by (side name fs)
 
-  abbrev BoxSaid : BoxAnswer → Type 0
-  BoxSaid r = (fs : Fields) → M ≡ some (object fs) → r ≡ box_read_by (reached (box_in fs))
+  abbrev BoxSaid : Option LotBox → Type 0
+  BoxSaid r = (fs : Fields) → Means names ids starts area fs → r ≡ box_in fs
 
-  absent : (fs : Fields) → box_from (side east fs) (side north fs) (side south fs) (side west fs) ≡ none → Absent ≡ box_read_by (reached (box_in fs))
-  unfolding box_read_by
+  absent : (fs : Fields) → box_from (side east fs) (side north fs) (side south fs) (side west fs) ≡ None → None ≡ box_in fs
   absent fs e = rw (box_as fs, e)
 
-  module _ {r : Side} (e : r ≡ Nothing) where
-    pub no_east : SideSaid east r → BoxSaid Absent
+  module _ {r : Option Float} (e : r ≡ None) where
+    pub no_east : SideSaid east r → BoxSaid None
     no_east told fs f = absent fs (lost_east _ _ _ _ (sym (told fs f) ∙ e))
 
-    pub no_north : SideSaid north r → BoxSaid Absent
+    pub no_north : SideSaid north r → BoxSaid None
     no_north told fs f = absent fs (lost_north _ _ _ _ (sym (told fs f) ∙ e))
 
-    pub no_south : SideSaid south r → BoxSaid Absent
+    pub no_south : SideSaid south r → BoxSaid None
     no_south told fs f = absent fs (lost_south _ _ _ _ (sym (told fs f) ∙ e))
 
-    pub no_west : SideSaid west r → BoxSaid Absent
+    pub no_west : SideSaid west r → BoxSaid None
     no_west told fs f = absent fs (lost_west _ _ _ _ (sym (told fs f) ∙ e))
 
   -- all four sides are there
   pub record FourSides (e n s w : Float) : Type 0 where
-    pub is_east : (fs : Fields) → M ≡ some (object fs) → Double e ≡ side_by (side east fs)
-    pub is_north : (fs : Fields) → M ≡ some (object fs) → Double n ≡ side_by (side north fs)
-    pub is_south : (fs : Fields) → M ≡ some (object fs) → Double s ≡ side_by (side south fs)
-    pub is_west : (fs : Fields) → M ≡ some (object fs) → Double w ≡ side_by (side west fs)
+    pub is_east : (fs : Fields) → Means names ids starts area fs → Some e ≡ side_by (side east fs)
+    pub is_north : (fs : Fields) → Means names ids starts area fs → Some n ≡ side_by (side north fs)
+    pub is_south : (fs : Fields) → Means names ids starts area fs → Some s ≡ side_by (side south fs)
+    pub is_west : (fs : Fields) → Means names ids starts area fs → Some w ≡ side_by (side west fs)
 
-  pub four_sides : {qe qn qs qw : Side} {e n s w : Float} → qe ≡ Double e → SideSaid east qe → qn ≡ Double n → SideSaid north qn
-      → qs ≡ Double s → SideSaid south qs → qw ≡ Double w → SideSaid west qw → FourSides e n s w
+  pub four_sides : {qe qn qs qw : Option Float} {e n s w : Float} → qe ≡ Some e → SideSaid east qe → qn ≡ Some n → SideSaid north qn
+      → qs ≡ Some s → SideSaid south qs → qw ≡ Some w → SideSaid west qw → FourSides e n s w
   four_sides a e b n c s d w =
       record {
         is_east = λ fs f. sym a ∙ e fs f;
@@ -153,7 +146,7 @@ module _ (M : Option Doc) where
       }
 
   module _ {e n s w : Float} (four : FourSides e n s w) where
-    from_four : (fs : Fields) → M ≡ some (object fs) → box_in fs ≡ box_from (some e) (some n) (some s) (some w)
+    from_four : (fs : Fields) → Means names ids starts area fs → box_in fs ≡ box_from (Some e) (Some n) (Some s) (Some w)
     from_four fs f =
         rw (
           box_as fs,
@@ -163,6 +156,6 @@ module _ (M : Option Doc) where
           side_some (side west fs) (sym (four.is_west fs f)),
         )
 
-    pub box_read : {r : BoxAnswer} → r ≡ box_read_by (reached (box_of_sides e n s w)) → BoxSaid r
+    pub box_read : {r : Option LotBox} → r ≡ box_of_sides e n s w → BoxSaid r
     unfolding box_from and_then
     box_read told fs f = rw (from_four fs f) told

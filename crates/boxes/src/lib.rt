@@ -4,120 +4,74 @@
 #![tactic(auto)]
 
 ghost use Rattle.std.specs.Prelude.{true, ◌≡◌, ℕ};
-ghost use Rattle.std.proofs.Math.Option.{some};
 ghost use Rattle.paper.specs.Boxes.{double_of, side, box_in, box_of};
 ghost use Rattle.paper.specs.Limits.{most_levels};
-ghost use Rattle.paper.specs.Meaning.{Doc, Fields, object};
-ghost use Rattle.paper.specs.Metadata.{Dictionary, names_in};
-ghost use Rattle.paper.specs.Operations.{box_read_by};
-ghost use Rattle.paper.specs.Refusals.{reached};
+ghost use Rattle.paper.specs.Meaning.{Doc, Fields};
+ghost use Rattle.paper.specs.Metadata.{Dictionary as Names};
 ghost use Rattle.paper.specs.Values.{meaning_of, whole};
-ghost use Rattle.boxes.specs.Sides.{side_by, box_of_sides, Lawful, LawfulObject};
+ghost use Rattle.boxes.specs.Sides.{side_by, box_of_sides, Lawful, Means, LawfulObject};
 
-use dictionary::Names;
-use paper::{BoxAnswer, LotBox, Reading};
-use paths::Place;
+use containers::Container;
+use dictionary::Dictionary;
+use paper::{LotBox, Reading};
 
-// A side of a box: a double that is in an order.
-#[derive(Clone, Copy)]
-enum Side {
-    Double(f64),
-    Nothing,
-}
-
-// The double that a value's bytes mean: nine bytes, the first 28. A NaN's pattern lies above that of infinity, the sign
-// aside.
-fn double_in(s: &[u8]) -> Side
+// The double that a value's bytes mean, if it is in an order: nine bytes, the first 28.
+fn double_in(s: &[u8]) -> Option<f64>
     requires { whole s.now ≡ true }
-    ensures { (levels : ℕ) (names : Dictionary) (d : Doc) → meaning_of levels names s.now ≡ some d → result ≡ side_by (double_of d) }
+    ensures { (levels : ℕ) (names : Names) (d : Doc) → meaning_of levels names s.now ≡ Some d → result ≡ side_by (double_of d) }
 {
     if s[0] != 28 {
-        return Side::Nothing;
+        return None;
     }
-    let bits = numbers::read8(s, 1);
-    if 9218868437227405312 < bits % 9223372036854775808 {
-        return Side::Nothing;
-    }
-    Side::Double(f64::from_bits(bits))
+    cells::double(numbers::read8(s, 1))
 }
 
 // The side of a name in an object.
-fn side_in(
-    metadata: &[u8],
-    names: Names,
-    s: &[u8],
-    counted: usize,
-    id: usize,
-    width: usize,
-    name: &[u8],
-) -> Side
-    requires { LawfulObject metadata.now names s.now counted id width }
-    ensures { (fs : Fields) → meaning_of most_levels (names_in metadata.now) s.now ≡ some (object fs) → result ≡ side_by (side name.now fs) }
+fn side_in(dictionary: &Dictionary, object: &Container, name: &[u8]) -> Option<f64>
+    requires { LawfulObject dictionary.now.names object.now.ids object.now.starts object.now.area.now }
+    ensures { (fs : Fields) → Means dictionary.now.names object.now.ids object.now.starts object.now.area.now fs → result ≡ side_by (side name.now fs) }
 {
-    let Place::At { start, size } = paths::field_at(metadata, names, s, counted, id, width, name)
-    else {
-        return Side::Nothing;
-    };
-    let l = containers::layout_of(s, counted, id, width);
-    let from = l.area;
-    let area = &s[from..];
-    let end = start + size;
-    double_in(&area[start..end])
+    let field = paths::field_at(dictionary, object, name)?;
+    let start = field.start;
+    let end = start + field.size;
+    double_in(&object.area[start..end])
 }
 
 // Four sides are a box if west is at most east and south at most north.
-fn ordered(east: f64, north: f64, south: f64, west: f64) -> BoxAnswer
-    ensures { result ≡ box_read_by (reached (box_of_sides east north south west)) }
+fn ordered(east: f64, north: f64, south: f64, west: f64) -> Option<LotBox>
+    ensures { result ≡ box_of_sides east north south west }
 {
-    if west <= east {
-        if south <= north {
-            return BoxAnswer::Read(LotBox {
-                east,
-                north,
-                south,
-                west,
-            });
-        }
-        return BoxAnswer::Absent;
+    if west <= east && south <= north {
+        return Some(LotBox {
+            east,
+            north,
+            south,
+            west,
+        });
     }
-    BoxAnswer::Absent
+    None
 }
 
 // The box in an object: all four sides are doubles, and they are in order. Other fields are ignored.
-fn box_in(
-    metadata: &[u8],
-    names: Names,
-    s: &[u8],
-    counted: usize,
-    id: usize,
-    width: usize,
-) -> BoxAnswer
-    requires { LawfulObject metadata.now names s.now counted id width }
-    ensures { (fs : Fields) → meaning_of most_levels (names_in metadata.now) s.now ≡ some (object fs) → result ≡ box_read_by (reached (box_in fs)) }
+fn box_in(dictionary: &Dictionary, object: &Container) -> Option<LotBox>
+    requires { LawfulObject dictionary.now.names object.now.ids object.now.starts object.now.area.now }
+    ensures { (fs : Fields) → Means dictionary.now.names object.now.ids object.now.starts object.now.area.now fs → result ≡ box_in fs }
 {
-    let Side::Double(east) = side_in(metadata, names, s, counted, id, width, b"east") else {
-        return BoxAnswer::Absent;
-    };
-    let Side::Double(north) = side_in(metadata, names, s, counted, id, width, b"north") else {
-        return BoxAnswer::Absent;
-    };
-    let Side::Double(south) = side_in(metadata, names, s, counted, id, width, b"south") else {
-        return BoxAnswer::Absent;
-    };
-    let Side::Double(west) = side_in(metadata, names, s, counted, id, width, b"west") else {
-        return BoxAnswer::Absent;
-    };
+    let east = side_in(dictionary, object, b"east")?;
+    let north = side_in(dictionary, object, b"north")?;
+    let south = side_in(dictionary, object, b"south")?;
+    let west = side_in(dictionary, object, b"west")?;
     ordered(east, north, south, west)
 }
 
 // The box of a lawful document's outermost object.
-pub fn lot_box(metadata: &[u8], names: Names, value: &[u8]) -> BoxAnswer
-    requires { Lawful metadata.now names value.now }
-    ensures { (d : Doc) → meaning_of most_levels (names_in metadata.now) value.now ≡ some d → result ≡ box_read_by (reached (box_of d)) }
+pub fn lot_box(dictionary: &Dictionary, value: &[u8]) -> Option<LotBox>
+    requires { Lawful dictionary.now.names value.now }
+    ensures { (d : Doc) → meaning_of most_levels dictionary.now.names value.now ≡ Some d → result ≡ box_of d }
 {
-    let says = heads::reading(value[0]);
-    let Reading::ObjectHead { count, id, offset } = says else {
-        return BoxAnswer::Absent;
+    let Reading::ObjectHead { count, id, offset } = heads::reading(value[0]) else {
+        return None;
     };
-    box_in(metadata, names, value, count, id, offset)
+    let object = containers::object(value, count, id, offset);
+    box_in(dictionary, &object)
 }

@@ -1,45 +1,39 @@
 -- One member of an object: what the calls on it ask, and what was put is its bytes.
+use Rattle.std.specs.Prelude.{Option, None, Some}
 use mathlib.Core.List.{List}
-use mathlib.Core.Option.{Option, none, some, some-injective}
 use mathlib.Core.Path.{◌≡◌, refl, sym, ap, ◌∙◌}
 use Prim.Native.Nat.{ℕ, ◌+◌, ◌-◌, ◌≤◌, ◌<◌}
 use native.Mathlib.Omega.{arith}
 use lib.ListN.{length}
 use Rattle.containers.proofs.ChildLaws.{extent_fits}
 use Rattle.forms.proofs.LieLaws.{child_length}
-use Rattle.frames.specs.declared.Frame.TheVariants.{Ends, Cut}
-use Rattle.frames.specs.declared.Frame.{Frame}
-use Rattle.heads.specs.Extents.{extent_answer}
-use Rattle.heads.specs.declared.Extent.TheVariants.{Size, Unknown}
-use Rattle.heads.specs.declared.Extent.{Extent}
 use Rattle.paper.specs.Bounds.{most_walked}
 use Rattle.paper.specs.Schemas.{Schema}
 use Rattle.paper.specs.Values.{child_extent, child_bytes}
 use Rattle.paper.specs.Words.{part}
 use Rattle.places.proofs.StepLaws.{place_cut, place_ends, place_fits}
-use Rattle.places.specs.Frames.{place_end, place_frame}
+use Rattle.places.specs.Frames.{place_end}
 use Rattle.putting.specs.Put.{Leftover, PutAs}
-use Rattle.putting.specs.declared.Put.{Put}
 use Rattle.rebuilt.specs.Members.{Member}
 use Rattle.rebuilt.specs.Rebuilt.{place_rebuilt}
 use Rattle.schemas.specs.Positions.{Stands, field_node}
 use Rattle.writing.specs.Rewritten.{rewritten}
 use Rattle.building.proofs.GrowthLaws.{leftover_ready}
 use Rattle.building.specs.Building.{PlaceReady, MemberReady, left_ready, place_ready, SomeMember}
+use Rattle.std.proofs.lemmas.Option.{same_Some}
 
 -- ---- a leftover's member
 
-extent_is : (x : Option ℕ) (r : Extent) → r ≡ extent_answer x → {size : ℕ} → r ≡ Size size → x ≡ some size
-unfolding extent_answer
-extent_is none r is e = let z : ◌≡◌ {A = ℕ} 0 1 = cc in absurd (omega arith)
-extent_is (some n) r is e = ap some (size_same (sym is ∙ e))
+extent_is : (x : Option ℕ) (r : Option ℕ) → r ≡ x → {size : ℕ} → r ≡ Some size → x ≡ Some size
+extent_is None r is e = let z : ◌≡◌ {A = ℕ} 0 1 = cc in absurd (omega arith)
+extent_is (Some n) r is e = ap Some (size_same (sym is ∙ e))
   where
-    size_same : {a b : ℕ} → Size a ≡ Size b → a ≡ b
+    size_same : {a b : ℕ} → Some a ≡ Some b → a ≡ b
     size_same same = cc
 
 record LeftView (levels : ℕ) (ranks area : List ℕ) (floor at : ℕ) (one : Member) : Type 0 where
   pub size : ℕ
-  pub long : child_extent area at ≡ some size
+  pub long : child_extent area at ≡ Some size
   pub asks : Leftover levels (child_bytes area (record { start = at; size = size })) ranks floor
   pub small : length area ≤ most_walked
   pub bytes_are : one.bytes ≡ rewritten levels ranks (child_bytes area (record { start = at; size = size }))
@@ -63,20 +57,19 @@ unfolding child_bytes
 own_bytes area at size = let same : at + size - at ≡ size = omega arith in rw same
 
 module _ {levels : ℕ} {ranks schema table area body : List ℕ} {places ids floor at field : ℕ} (e : field ≡ 0) where
-  module _ {r : Extent} (told : r ≡ extent_answer (child_extent area at)) where
-    pub member_known : r ≡ Unknown → (one : Member) → MemberReady levels ranks schema table area body places ids floor at field one → ⊥
-    unfolding extent_answer
+  module _ {r : Option ℕ} (told : r ≡ child_extent area at) where
+    pub member_known : r ≡ None → (one : Member) → MemberReady levels ranks schema table area body places ids floor at field one → ⊥
     member_known lost one ready =
         let long = (left_view ready e).long in
-        let is : r ≡ Size (left_view ready e).size = told ∙ rw long in
+        let is : r ≡ Some (left_view ready e).size = told ∙ rw long in
         let z : ◌≡◌ {A = ℕ} 0 1 = cc in
         omega arith
 
-    module _ {size : ℕ} (sized : r ≡ Size size) where
+    module _ {size : ℕ} (sized : r ≡ Some size) where
       size_is : {one : Member} (ready : MemberReady levels ranks schema table area body places ids floor at field one) → (left_view ready e).size ≡ size
       size_is ready =
           let long = (left_view ready e).long in
-          some-injective (left_view ready e).size size (sym long ∙ extent_is (child_extent area at) r told sized)
+          same_Some (left_view ready e).size size (sym long ∙ extent_is (child_extent area at) r told sized)
 
       pub member_in : SomeMember levels ranks schema table area body places ids floor at field → (at + size ≤ length area) × (length area ≤ most_walked)
       member_in some_one =
@@ -89,7 +82,7 @@ module _ {levels : ℕ} {ranks schema table area body : List ℕ} {places ids fl
           let same : view.size ≡ size = size_is some_one.ready in
           rw (own_bytes area at size, ← same) view.asks
 
-      pub member_left : {before after : List ℕ} {end : ℕ} {r2 : Put} → PutAs (rewritten levels ranks (part area at (at + size))) before after floor end r2
+      pub member_left : {before after : List ℕ} {end : ℕ} {r2 : Option ℕ} → PutAs (rewritten levels ranks (part area at (at + size))) before after floor end r2
           → (one : Member) → MemberReady levels ranks schema table area body places ids floor at field one → PutAs one.bytes before after floor end r2
       member_left done one ready =
           let view = left_view ready e in
@@ -98,12 +91,12 @@ module _ {levels : ℕ} {ranks schema table area body : List ℕ} {places ids fl
 
 -- ---- a place
 
-pub member_fits : (body : List ℕ) (at : ℕ) {r : Frame} → r ≡ place_frame body at → {to : ℕ} → r ≡ Ends to → (at + 3 ≤ to) × (to ≤ length body)
+pub member_fits : (body : List ℕ) (at : ℕ) {r : Option ℕ} → r ≡ place_end body at → {to : ℕ} → r ≡ Some to → (at + 3 ≤ to) × (to ≤ length body)
 member_fits body at {r} framed {to} e = place_fits body at to (place_ends body at to r framed e)
 
 record PlaceView (levels : ℕ) (ranks schema table body : List ℕ) (places ids floor at field : ℕ) (one : Member) : Type 0 where
   pub end : ℕ
-  pub ends : place_end body at ≡ some end
+  pub ends : place_end body at ≡ Some end
   pub ready : PlaceReady levels ranks schema table (field_node schema field) (part body (at + 3) end) places ids floor
   pub bytes_are : one.bytes ≡ place_rebuilt ready.there.under levels ranks schema table (field_node schema field) (part body (at + 3) end)
 
@@ -123,19 +116,19 @@ module _ {levels : ℕ} {ranks schema table area body : List ℕ} {places ids fl
     pub member_node : field_node schema field ≤ length schema
     member_node = let view = place_view some_one.ready other in let inside = view.ready.there.stands.within in omega arith
 
-  module _ {r : Frame} (framed : r ≡ place_frame body at) where
-    pub member_whole : r ≡ Cut → (one : Member) → MemberReady levels ranks schema table area body places ids floor at field one → ⊥
+  module _ {r : Option ℕ} (framed : r ≡ place_end body at) where
+    pub member_whole : r ≡ None → (one : Member) → MemberReady levels ranks schema table area body places ids floor at field one → ⊥
     member_whole cut one ready =
         let ends = (place_view ready other).ends in
         let none_there = place_cut body at r framed cut in
         let z : ◌≡◌ {A = ℕ} 0 1 = cc in
         omega arith
 
-    module _ {to : ℕ} (e : r ≡ Ends to) where
+    module _ {to : ℕ} (e : r ≡ Some to) where
       end_is : {one : Member} (ready : MemberReady levels ranks schema table area body places ids floor at field one) → (place_view ready other).end ≡ to
       end_is ready =
           let ends = (place_view ready other).ends in
-          some-injective (place_view ready other).end to (sym ends ∙ place_ends body at to r framed e)
+          same_Some (place_view ready other).end to (sym ends ∙ place_ends body at to r framed e)
 
       pub member_place : SomeMember levels ranks schema table area body places ids floor at field → (node : ℕ) → node ≡ field_node schema field
           → PlaceReady levels ranks schema table node (part body (at + 3) to) places ids floor
@@ -144,7 +137,7 @@ module _ {levels : ℕ} {ranks schema table area body : List ℕ} {places ids fl
           let same : view.end ≡ to = end_is some_one.ready in
           rw (is, ← same) view.ready
 
-      pub member_placed : (node : ℕ) → node ≡ field_node schema field → {before after : List ℕ} {end : ℕ} {r2 : Put}
+      pub member_placed : (node : ℕ) → node ≡ field_node schema field → {before after : List ℕ} {end : ℕ} {r2 : Option ℕ}
           → ((under : Schema) → Stands levels schema node under → PutAs (place_rebuilt under levels ranks schema table node (part body (at + 3) to)) before after floor end r2)
           → (one : Member) → MemberReady levels ranks schema table area body places ids floor at field one → PutAs one.bytes before after floor end r2
       member_placed node is done one ready =

@@ -1,23 +1,21 @@
 -- The places of a list by their number: each is there where it was noted, ready to be written with what the tables have left.
+use Rattle.std.specs.Prelude.{Some, None, Option}
 use mathlib.Core.Bool.{Bool, true, false}
 use mathlib.Core.List.{List, [], ◌∷◌, ◌++◌}
-use mathlib.Core.Option.{some}
 use mathlib.Core.Path.{◌≡◌, refl, sym, ap, ◌∙◌}
-use Prim.Native.Nat.{ℕ, zero, suc, ◌+◌, ◌-◌, ◌*◌, ◌≤◌, ◌<◌}
+use Prim.Native.Nat.{ℕ, zero, suc, ◌+◌, ◌*◌, ◌≤◌, ◌<◌}
 use native.Mathlib.Omega.{arith}
 use borrow.Author.Tests.{leb-true, leb-false}
 use lib.Dec.{leb}
 use lib.ListN.{length, get_or, drop, length-take, length-drop}
 use Rattle.frames.specs.Frames.{piece_in}
-use Rattle.frames.specs.declared.Frame.TheVariants.{Ends, Cut}
-use Rattle.frames.specs.declared.Frame.{Frame}
 use Rattle.noting.specs.Notes.{piece_places}
 use Rattle.paper.specs.Framing.{Piece}
 use Rattle.paper.specs.Metadata.{Dictionary}
 use Rattle.paper.specs.Schemas.{Schema}
 use Rattle.paper.specs.Words.{part, joined}
 use Rattle.places.proofs.StepLaws.{place_ends}
-use Rattle.places.specs.Frames.{place_end, place_frame}
+use Rattle.places.specs.Frames.{place_end}
 use Rattle.rebuilt.proofs.InnerLaws.{pieces_none, element_whole, element_fits, element_place, elements_behind, element_pieces}
 use Rattle.rebuilt.proofs.NumberedLaws.{numbered_front, numbered_behind}
 use Rattle.schemas.proofs.StandingLaws.{one_stands}
@@ -36,7 +34,7 @@ cons_rest e = ap (drop 1) e
 -- A place in a body: what it holds, and how many bytes of the body are not in it.
 pub record PlaceAt (levels : ℕ) (names normal : Dictionary) (ranks schema table : List ℕ) (node : ℕ) (under : Schema) (body : List ℕ) (place size : ℕ) (piece : Piece) : Type 0 where
   pub end : ℕ
-  pub ends : place_end body place ≡ some end
+  pub ends : place_end body place ≡ Some end
   pub there : PlaceThere levels names schema table node (part body (place + 3) end)
   pub under_is : there.under ≡ under
   pub numbered : Numbered names normal ranks (place_ids under levels schema table node (part body (place + 3) end))
@@ -63,7 +61,7 @@ narrower one less =
 pub record FirstPlace (body : List ℕ) (place : ℕ) (piece : Piece) (more : List Piece) : Type 0 where
   pub end : ℕ
   pub has : place < length body
-  pub told : Ends end ≡ place_frame body place
+  pub told : Some end ≡ place_end body place
   pub fits : (place + 3 ≤ end) × (end ≤ length body)
   pub piece_is : piece ≡ piece_in body place end
   pub more_is : pieces_in (drop end body) ≡ more
@@ -83,11 +81,11 @@ module _ {levels : ℕ} {names : Dictionary} {schema table : List ℕ} {node : �
         go false e = leb-false (length body) place e
 
     pub first_place : FirstPlace body place piece more
-    first_place = go (place_frame body place) refl
+    first_place = go (place_end body place) refl
       where
-        go : (r : Frame) → r ≡ place_frame body place → FirstPlace body place piece more
-        go Cut told = absurd (element_whole body place there first_has told refl)
-        go (Ends end) told =
+        go : (r : Option ℕ) → r ≡ place_end body place → FirstPlace body place piece more
+        go None told = absurd (element_whole body place there first_has told refl)
+        go (Some end) told =
             let fits = element_fits body place there first_has told refl in
             let both : piece ∷ more ≡ piece_in body place end ∷ pieces_in (drop end body) = sym are ∙ element_pieces body place there first_has told refl in
             let is : piece ≡ piece_in body place end = cons_first both in

@@ -1,9 +1,9 @@
 -- What a lawful place is rebuilt to is one value: it fills its bytes.
+use Rattle.std.specs.Prelude.{Some}
 use mathlib.Core.Bool.{Bool, true, false, cond, ◌&&◌, ◌||◌}
 use mathlib.Core.List.{List, [], ◌∷◌, map}
-use mathlib.Core.Option.{some, some-injective}
 use mathlib.Core.Path.{◌≡◌, refl, sym, ◌∙◌}
-use Prim.Native.Nat.{ℕ, ◌-◌, ◌^◌, ◌≤◌, ◌<◌}
+use Prim.Native.Nat.{ℕ, ◌^◌, ◌≤◌, ◌<◌}
 use native.Mathlib.Omega.{arith}
 use borrow.Author.Tests.{le-leb, leb-true, eqb-true, eqb-false, ne_eqb}
 use lib.Dec.{leb, eqb}
@@ -18,7 +18,7 @@ use Rattle.paper.specs.FirstBytes.{payload_sizes}
 use Rattle.paper.specs.Meaning.{Scalar, payload, text_meaning}
 use Rattle.paper.specs.Metadata.{Dictionary}
 use Rattle.paper.specs.Schemas.{Schema, leftover_only, column, list, fields, column_code}
-use Rattle.paper.specs.Words.{at, part}
+use Rattle.paper.specs.Words.{part}
 use Rattle.paper.specs.Values.{meaning_of}
 use Rattle.places.specs.Parts.{parts_of}
 use Rattle.places.specs.declared.parts.Parts.TheVariants.{Empty, Leftover, Typed, Both, Unframed}
@@ -34,6 +34,7 @@ use Rattle.schemas.specs.Kinds.{kind_of, kind_at}
 use Rattle.schemas.specs.Positions.{Stands}
 use Rattle.writing.proofs.RewrittenLaws.{rewritten_filled}
 use Rattle.writing.specs.Rewritten.{ranks_at, rewritten}
+use Rattle.std.proofs.lemmas.Option.{same_Some}
 
 -- ---- a cell
 
@@ -74,21 +75,21 @@ module _ (code : ℕ) (s : List ℕ) where
       let bounds = code_bounds good other in
       rw (le-leb 3 code bounds.0, le-leb code 20 bounds.1, ne_eqb code 16 no_string, sized-right, bounds.2)
 
-  cell_good : column_code code ≡ true → (value : Scalar) → cell_meaning (record { code = code }) s ≡ some value → scalar_good value ≡ true
+  cell_good : column_code code ≡ true → (value : Scalar) → cell_meaning (record { code = code }) s ≡ Some value → scalar_good value ≡ true
   unfolding cell_meaning body_kind cell_by text_meaning scalar_good
   cell_good good value = go (eqb code 1) (eqb code 15) (eqb code 16) refl refl refl
     where
       go : (one fifteen sixteen : Bool) → eqb code 1 ≡ one → eqb code 15 ≡ fifteen → eqb code 16 ≡ sixteen
-          → cell_by (cond one yes_no (cond fifteen binary (cond sixteen string sized))) code s ≡ some value → scalar_good value ≡ true
+          → cell_by (cond one yes_no (cond fifteen binary (cond sixteen string sized))) code s ≡ Some value → scalar_good value ≡ true
       go true fifteen sixteen e f g m =
-          let told = given_some _ _ m in rw (← some-injective _ value told.1)
+          let told = given_some _ _ m in rw (← same_Some _ value told.1)
       go false true sixteen e f g m =
           let is : code ≡ 15 = eqb-true code 15 f in
-          rw (← some-injective _ value m) (payload_good good (eqb-false code 1 e) (λ z. omega arith) (rw f))
-      go false false true e f g m = rw (← some-injective _ value m)
+          rw (← same_Some _ value m) (payload_good good (eqb-false code 1 e) (λ z. omega arith) (rw f))
+      go false false true e f g m = rw (← same_Some _ value m)
       go false false false e f g m =
           let told = given_some _ _ m in
-          rw (← some-injective _ value told.1) (payload_good good (eqb-false code 1 e) (eqb-false code 16 g) (rw (f, told.0)))
+          rw (← same_Some _ value told.1) (payload_good good (eqb-false code 1 e) (eqb-false code 16 g) (rw (f, told.0)))
 
 -- ---- what is typed, and a place
 

@@ -1,7 +1,7 @@
 -- A leftover whose ids are numbered is written in at most twice its bytes, so the floor is high enough for it.
+use Rattle.std.specs.Prelude.{Some}
 use mathlib.Core.Bool.{true}
 use mathlib.Core.List.{List}
-use mathlib.Core.Option.{some}
 use mathlib.Core.Path.{◌≡◌, sym, ap, ◌∙◌}
 use Prim.Native.Nat.{ℕ, ◌*◌, ◌≤◌}
 use native.Mathlib.Omega.{arith}
@@ -25,7 +25,7 @@ use Rattle.writing.proofs.MeaningLaws.{rewritten_is}
 use Rattle.writing.specs.Rewritten.{rewritten}
 use Rattle.building.specs.Building.{Bytes}
 
-module _ (levels : ℕ) {names normal : Dictionary} {ranks : List ℕ} (s : List ℕ) {d : Doc} (means : meaning_of levels names s ≡ some d)
+module _ (levels : ℕ) {names normal : Dictionary} {ranks : List ℕ} (s : List ℕ) {d : Doc} (means : meaning_of levels names s ≡ Some d)
     (numbered : Numbered names normal ranks (ids_in levels s)) (bytes : Bytes s) (short : length s ≤ most_leftover) where
   every_name : (name : List ℕ) → used_in name d ≡ true → among name normal ≡ true
   every_name name e =

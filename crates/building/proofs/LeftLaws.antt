@@ -1,9 +1,9 @@
 -- A leftover object's members and the notes of them, in step: each is a lawful value that can be written above the floor.
+use Rattle.std.specs.Prelude.{Option, None, Some}
 use mathlib.Core.Bool.{true, ◌&&◌}
 use mathlib.Core.List.{List, [], ◌∷◌, ◌++◌, map}
-use mathlib.Core.Option.{Option, none, some, some-injective}
 use mathlib.Core.Path.{◌≡◌, refl, sym, ◌∙◌}
-use Prim.Native.Nat.{ℕ, suc, ◌+◌, ◌-◌, ◌*◌, ◌%◌, ◌≤◌, ◌<◌}
+use Prim.Native.Nat.{ℕ, suc, ◌-◌, ◌*◌, ◌%◌, ◌≤◌, ◌<◌}
 use native.Mathlib.Omega.{arith}
 use borrow.Author.Tests.{eqb-true, ltb-true}
 use lib.Dec.{ltb}
@@ -14,7 +14,7 @@ use Rattle.marking.proofs.UsedIdLaws.{ids_below_lem}
 use Rattle.ranking.proofs.HeldLaws.{below_both}
 use Rattle.containers.proofs.LayoutLaws.{ids_starts_length}
 use Rattle.containers.specs.Children.{once_in}
-use Rattle.containers.specs.Layouts.{Container}
+use Rattle.containers.specs.Layouts.{HeadThere}
 use Rattle.forms.proofs.LieLaws.{bytes_drop, child_bytes_lem}
 use Rattle.marking.specs.Ids.{ids_of_all, ids_inside, ids_by, ids_in}
 use Rattle.noting.specs.Notes.{left_notes}
@@ -26,7 +26,8 @@ use Rattle.paper.specs.FirstBytes.{reading_of}
 use Rattle.paper.specs.Limits.{most_leftover}
 use Rattle.paper.specs.Meaning.{object}
 use Rattle.paper.specs.Metadata.{Dictionary, rising}
-use Rattle.paper.specs.Values.{Child, head_size_of, child_extent, children_at, child_bytes, area_of, starts_of, ids_of, names_at, meaning_by, meaning_of, whole}
+use Rattle.paper.specs.Values.{head_size_of, child_extent, children_at, child_bytes, area_of, starts_of, ids_of, names_at, meaning_by, meaning_of, whole}
+use Rattle.paper.specs.declared.Child.{Child}
 use Rattle.paper.specs.Words.{at, is_there, all_below}
 use Rattle.paper.specs.declared.Reading.TheVariants.{ObjectHead}
 use Rattle.rebuilt.proofs.LeftLaws.{ObjectRead, object_read}
@@ -40,6 +41,7 @@ use Rattle.writing.proofs.RewrittenLaws.{OneLevel, one_level}
 use Rattle.writing.specs.Rewritten.{sized_part, part_at, parts_of, rewritten}
 use Rattle.building.proofs.NotesLaws.{InStep, none_ready, one_ready}
 use Rattle.building.specs.Building.{Bytes, LeftObject, MemberReady, left_ready}
+use Rattle.std.proofs.lemmas.Option.{same_Some}
 
 module _ (levels : ℕ) (names normal : Dictionary) (ranks schema table area body : List ℕ) (places ids floor : ℕ) (bytes : Bytes area)
     (short : length area ≤ most_leftover) (high : (n : ℕ) → n ≤ length area → 2 * n ≤ floor) where
@@ -50,7 +52,7 @@ module _ (levels : ℕ) (names normal : Dictionary) (ranks schema table area bod
   own start size = child_bytes area (record { start = start; size = size })
 
   -- One member.
-  left_member : (id start size : ℕ) → child_extent area start ≡ some size → is_there (meaning_of levels names (own start size)) ≡ true
+  left_member : (id start size : ℕ) → child_extent area start ≡ Some size → is_there (meaning_of levels names (own start size)) ≡ true
       → Numbered names normal ranks (ids_in levels (own start size))
       → MemberReady levels ranks schema table area body places ids floor start 0 (record { id = id; bytes = part_at (rewritten levels ranks) area start })
   unfolding part_at sized_part
@@ -62,7 +64,7 @@ module _ (levels : ℕ) (names normal : Dictionary) (ranks schema table area bod
       (omega arith) (omega arith))
 
   -- All of them.
-  children_ready : (own-ids starts : List ℕ) (kids : List Child) → length own-ids ≡ length starts → children_at area starts ≡ some kids
+  children_ready : (own-ids starts : List ℕ) (kids : List Child) → length own-ids ≡ length starts → children_at area starts ≡ Some kids
       → all_good (meaning_of levels names) area kids ≡ true → Numbered names normal ranks (ids_of_all (ids_in levels) area kids) → all_below (length ranks) own-ids ≡ true
       → InStep Is (left_notes own-ids starts) (members_with own-ids (map (part_at (rewritten levels ranks) area) starts))
   unfolding left_notes members_with children_at all_good ids_of_all all_below
@@ -73,7 +75,7 @@ module _ (levels : ℕ) (names normal : Dictionary) (ranks schema table area bod
       let first = then_some (child_extent area start) _ are in
       let rest = then_some (children_at area starts) _ first.2 in
       let child : Child = record { start = start; size = first.0 } in
-      let is : kids ≡ child ∷ rest.0 = sym (some-injective (child ∷ rest.0) kids rest.2) in
+      let is : kids ≡ child ∷ rest.0 = sym (same_Some (child ∷ rest.0) kids rest.2) in
       let goods = and_both (is_there (meaning_of levels names (child_bytes area child))) (all_good (meaning_of levels names) area rest.0) (rw is at good) in
       let all : Numbered names normal ranks (ids_in levels (child_bytes area child) ++ ids_of_all (ids_in levels) area rest.0) = rw is at numbered in
       let belows = and_both (ltb id (length ranks)) (all_below (length ranks) own-ids) below in
@@ -100,7 +102,7 @@ module _ {levels : ℕ} {names normal : Dictionary} {ranks left : List ℕ} (bes
       object_read levels names left beside.members means (eqb-true (at left 0 % 4) 2 (sym (left_kind (suc levels) names left beside.means).0))
 
   module _ (c i w : ℕ) (is : reading_of (at left 0) ≡ ObjectHead c i w) where
-    pub left_container : Container left c i w
+    pub left_container : HeadThere left c i w
     left_container = let short = beside.short in object_container left told.fills (ObjectHead c i w) (sym is) c i w refl (omega arith)
 
     pub left_least : 1 ≤ i
@@ -136,8 +138,8 @@ module _ {levels : ℕ} {names normal : Dictionary} {ranks left : List ℕ} (bes
             → Numbered names normal ranks (ids_inside (ids_in levels) area x)
             → InStep (λ at field m. MemberReady levels ranks schema table area body places ids floor at field m × (m.id < length ranks)) (left_notes (ids_of c i left) (starts_of c i w left))
             (members_with (ids_of c i left) (map (part_at (rewritten levels ranks) area) (starts_of c i w left)))
-        go none are good numbered = never (sym good)
-        go (some kids) are good numbered =
+        go None are good numbered = never (sym good)
+        go (Some kids) are good numbered =
             let short = beside.short in
             let less-long = shorter in
             children_ready levels names normal ranks schema table area body places ids floor (bytes_drop (head_size_of (number_at left 1 c) c i w) left beside.bytes) (omega arith)
@@ -159,5 +161,5 @@ module _ {levels : ℕ} {names normal : Dictionary} {ranks left : List ℕ} (bes
         below_more (length area) (length left) (starts_of c i w left) shorter (children_below area (starts_of c i w left) (good_there (children_at area (starts_of c i w left)) left_good))
       where
         good_there : (x : Option (List Child)) → insides_good (meaning_of levels names) area x ≡ true → is_there x ≡ true
-        good_there none good = never (sym good)
-        good_there (some kids) good = refl
+        good_there None good = never (sym good)
+        good_there (Some kids) good = refl

@@ -1,6 +1,6 @@
 -- A list's places written, last to first: those from one on stand up to the end.
+use Rattle.std.specs.Prelude.{Some, None, Option}
 use mathlib.Core.List.{List, [], ◌∷◌, map}
-use mathlib.Core.Option.{some-injective}
 use mathlib.Core.Path.{◌≡◌, refl, sym, ap, subst, ◌∙◌}
 use Prim.Native.Nat.{ℕ, zero, suc, ◌+◌, ◌-◌, ◌*◌, ◌^◌, ◌≤◌, ◌<◌}
 use native.Mathlib.Omega.{arith}
@@ -10,8 +10,6 @@ use borrow.Rule.Slice.PartMut.{put_mid, same_len_mid, take_put}
 use Rattle.forms.proofs.ContainerLaws.{array_fit}
 use Rattle.forms.proofs.PartLaws.{AllFilled}
 use Rattle.forms.proofs.ScalarLaws.{Filled}
-use Rattle.frames.specs.declared.Frame.TheVariants.{Ends, Cut}
-use Rattle.frames.specs.declared.Frame.{Frame}
 use Rattle.noting.specs.Adding.{SomeElements}
 use Rattle.noting.specs.Notes.{piece_places, Spotted}
 use Rattle.paper.specs.Bounds.{most_walked}
@@ -21,11 +19,9 @@ use Rattle.paper.specs.Normal.{array_bytes}
 use Rattle.paper.specs.Schemas.{Schema}
 use Rattle.paper.specs.Words.{part, joined}
 use Rattle.places.proofs.StepLaws.{place_cut, place_ends, place_fits}
-use Rattle.places.specs.Frames.{place_frame}
+use Rattle.places.specs.Frames.{place_end}
 use Rattle.putting.proofs.PutLaws.{told_length, told_room, ends_lie, put_array}
 use Rattle.putting.specs.Put.{Room, PutAs, full}
-use Rattle.putting.specs.declared.Put.TheVariants.{At, Full}
-use Rattle.putting.specs.declared.Put.{Put}
 use Rattle.rebuilt.specs.Rebuilt.{place_rebuilt, pieces_in}
 use Rattle.schemas.specs.Positions.{Stands}
 use Rattle.schemas.proofs.StandingLaws.{one_stands}
@@ -36,6 +32,7 @@ use Rattle.building.proofs.FilledLaws.{place_filled}
 use Rattle.building.proofs.LoopLaws.{PartsSeen, parts_start, parts_next, parts_full, parts_done}
 use Rattle.building.proofs.MemberLaws.{part_bytes}
 use Rattle.building.specs.Building.{PlaceReady, ElementsReady, elements_rebuilt}
+use Rattle.std.proofs.lemmas.Option.{same_Some}
 
 pub record ListSeen (levels : ℕ) (ranks schema table : List ℕ) (node : ℕ) (body places₀ ids₀ out₀ : List ℕ) (floor end count : ℕ) (places ids out : List ℕ) (start i : ℕ) : Type 0 where
   pub room : Room out floor start
@@ -120,13 +117,13 @@ module _ {levels : ℕ} {ranks schema table : List ℕ} {node : ℕ} {body : Lis
       pub list_frame_in : at < length body
       list_frame_in = let fits = place_fits body at list_at.end list_at.ends in omega arith
 
-      module _ {r : Frame} (framed : r ≡ place_frame body at) where
-        pub list_whole : r ≡ Cut → ⊥
+      module _ {r : Option ℕ} (framed : r ≡ place_end body at) where
+        pub list_whole : r ≡ None → ⊥
         list_whole e = let ends = list_at.ends in let cut = place_cut body at r framed e in let z : ◌≡◌ {A = ℕ} 0 1 = cc in omega arith
 
-        module _ {to : ℕ} (e : r ≡ Ends to) where
+        module _ {to : ℕ} (e : r ≡ Some to) where
           same_end : to ≡ list_at.end
-          same_end = some-injective to list_at.end (sym (place_ends body at to r framed e) ∙ list_at.ends)
+          same_end = same_Some to list_at.end (sym (place_ends body at to r framed e) ∙ list_at.ends)
 
           pub list_fits : (at + 3 ≤ to) × (to ≤ length body)
           list_fits = rw same_end (place_fits body at list_at.end list_at.ends)
@@ -155,7 +152,7 @@ module _ {levels : ℕ} {ranks schema table : List ℕ} {node : ℕ} {body : Lis
                 enough = record { small = omega arith; places_room = omega arith; ids_room = omega arith; high = λ n below short. enough.high n (omega arith) short };
               }
 
-          module _ {after : List ℕ} {r2 : Put}
+          module _ {after : List ℕ} {r2 : Option ℕ}
               (put : (under : Schema) → Stands levels schema node under → PutAs (place_rebuilt under levels ranks schema table node (part body (at + 3) to)) out after floor start r2) where
             own_part : (element : Schema) → get_or (elements element) (i - 1) [] ≡ place_rebuilt element levels ranks schema table node (part body (at + 3) to)
             own_part element =
@@ -177,13 +174,13 @@ module _ {levels : ℕ} {ranks schema table : List ℕ} {node : ℕ} {body : Lis
                 own_part element ∙ rw (same, same_end) in
                 subst (λ (l : List ℕ). Filled l) (sym is) (place_filled ranks one.there (omega arith) (rw is at short))
 
-            pub list_full : r2 ≡ Full → (last : List ℕ) → (element : Schema) → Stands levels schema node element → PutAs (array_bytes (elements element)) out₀ last floor end Full
+            pub list_full : r2 ≡ None → (last : List ℕ) → (element : Schema) → Stands levels schema node element → PutAs (array_bytes (elements element)) out₀ last floor end None
             list_full e2 last element stands =
                 let before = parts_full (seen.parts element stands) (i - 1) (omega arith) (own_put element stands) e2 in
                 let long = array_fit (elements element) in
                 full (omega arith)
 
-            pub list_next : {next : ℕ} → r2 ≡ At next → length ids₀ ≡ room-ids → {left_ids : List ℕ} → length left_ids ≡ length ids → (back : List ℕ)
+            pub list_next : {next : ℕ} → r2 ≡ Some next → length ids₀ ≡ room-ids → {left_ids : List ℕ} → length left_ids ≡ length ids → (back : List ℕ)
                 → length back ≡ length (take (length places - count) (drop count places))
                 → ListSeen levels ranks schema table node body places₀ ids₀ out₀ floor end count (put_mid count (length places - count) places back) left_ids after next (i - 1)
             list_next {next} e2 ids-kept {left_ids} ids_back back places_back =
@@ -221,7 +218,7 @@ module _ {levels : ℕ} {ranks schema table : List ℕ} {node : ℕ} {body : Lis
     pub list_few : count ≤ most_walked
     list_few = let size = few in let long = pieces_long body (pieces_in body) 0 refl ready.there (omega arith) in let short = ready.enough.small in omega arith
 
-    pub list_put : i ≡ 0 → {last : List ℕ} {r2 : Put}
+    pub list_put : i ≡ 0 → {last : List ℕ} {r2 : Option ℕ}
         → ((parts : List (List ℕ)) → Lies out start end parts → length parts ≡ count → PutAs (array_head parts) out last floor start r2)
         → (element : Schema) → Stands levels schema node element → PutAs (array_bytes (elements element)) out₀ last floor end r2
     list_put e head element stands =

@@ -1,7 +1,8 @@
 -- The loops over parts that are written last to first: those from one on stand up to the end, each one value.
+use Rattle.std.specs.Prelude.{Some, None, Option}
 use mathlib.Core.List.{List, [], ◌∷◌, ◌++◌}
 use mathlib.Core.Path.{◌≡◌, sym, ap, ◌∙◌}
-use Prim.Native.Nat.{ℕ, suc, ◌+◌, ◌-◌, ◌^◌, ◌≤◌, ◌<◌}
+use Prim.Native.Nat.{ℕ, suc, ◌+◌, ◌^◌, ◌≤◌, ◌<◌}
 use native.Mathlib.Omega.{arith}
 use lib.ListN.{length, get_or, take, drop, drop_of_length-le, length-append, take-append-drop}
 use lib.Seq.{drop-cons}
@@ -10,8 +11,6 @@ use Rattle.forms.proofs.ScalarLaws.{Filled}
 use Rattle.paper.specs.Words.{joined}
 use Rattle.putting.proofs.PutLaws.{told_here, told_full}
 use Rattle.putting.specs.Put.{Room, PutAs}
-use Rattle.putting.specs.declared.Put.TheVariants.{At, Full}
-use Rattle.putting.specs.declared.Put.{Put}
 use Rattle.writing.proofs.EndLaws.{nothing_ends, ends_join}
 use Rattle.writing.specs.Ends.{EndsAt}
 
@@ -50,11 +49,11 @@ module _ {parts : List (List ℕ)} {before out : List ℕ} {floor end start i : 
   pub parts_done : i ≡ 0 → (EndsAt (joined parts) before out end start) × AllFilled parts
   parts_done e = (rw e at seen.ends, rw e at seen.filled)
 
-  module _ (k : ℕ) (next : k + 1 ≡ i) {after : List ℕ} {r : Put} (put : PutAs (get_or parts k []) out after floor start r) where
+  module _ (k : ℕ) (next : k + 1 ≡ i) {after : List ℕ} {r : Option ℕ} (put : PutAs (get_or parts k []) out after floor start r) where
     one_more : drop k parts ≡ get_or parts k [] ∷ drop i parts
     one_more = let short = seen.within in let up : suc k ≡ i = omega arith in rw (← up) (drop-cons parts k [] (omega arith))
 
-    pub parts_next : {first : ℕ} → r ≡ At first → (length (get_or parts k []) < 2 ^ 32 → Filled (get_or parts k [])) → PartsSeen parts before after floor end first k
+    pub parts_next : {first : ℕ} → r ≡ Some first → (length (get_or parts k []) < 2 ^ 32 → Filled (get_or parts k [])) → PartsSeen parts before after floor end first k
     unfolding joined AllFilled
     parts_next {first} e fills =
         let here = (told_here put e).1 in
@@ -70,7 +69,7 @@ module _ {parts : List (List ℕ)} {before out : List ℕ} {floor end start i : 
           filled = rw one_more (fills (omega arith), seen.filled);
         }
 
-    pub parts_full : r ≡ Full → end < floor + length (joined parts)
+    pub parts_full : r ≡ None → end < floor + length (joined parts)
     unfolding joined
     parts_full e =
         let short = told_full put e in

@@ -1,7 +1,8 @@
 -- An object's places and the notes of them, in step: each that is present is ready to be written with what the tables have left.
+use Rattle.dictionary.specs.declared.ids.InputId.{InputId}
+use Rattle.std.specs.Prelude.{Some, None, Option}
 use mathlib.Core.Bool.{Bool, true, false}
 use mathlib.Core.List.{List, [], ◌∷◌, ◌++◌}
-use mathlib.Core.Option.{some}
 use mathlib.Core.Path.{◌≡◌, refl, sym, ap, subst, ◌∙◌}
 use Prim.Native.Nat.{ℕ, suc, ◌+◌, ◌-◌, ◌*◌, ◌≤◌, ◌<◌}
 use native.Mathlib.Omega.{arith}
@@ -11,17 +12,13 @@ use lib.ListN.{length, drop, length-take, length-drop}
 use Rattle.fields.specs.Telling.{looked_at}
 use Rattle.forms.proofs.LieLaws.{bytes_take, bytes_drop}
 use Rattle.frames.specs.Frames.{piece_in}
-use Rattle.frames.specs.declared.Frame.TheVariants.{Ends, Cut}
-use Rattle.frames.specs.declared.Frame.{Frame}
-use Rattle.lookup.specs.declared.Looked.TheVariants.{At, Nowhere}
-use Rattle.lookup.specs.declared.Looked.{Looked}
 use Rattle.noting.specs.Notes.{Note, add_note, field_notes}
 use Rattle.paper.specs.Framing.{Piece}
 use Rattle.paper.specs.Metadata.{Dictionary}
 use Rattle.paper.specs.Schemas.{Schema, SchemaFields, none_named, named}
 use Rattle.paper.specs.Words.{part}
 use Rattle.places.proofs.StepLaws.{place_ends}
-use Rattle.places.specs.Frames.{place_end, place_frame}
+use Rattle.places.specs.Frames.{place_end}
 use Rattle.ranking.proofs.HeldLaws.{held_first, below_held}
 use Rattle.rebuilt.proofs.InnerLaws.{NamedBy, pieces_none, members_over, member_first, member_whole, member_fits, member_place, members_behind, member_pieces, member_named}
 use Rattle.rebuilt.proofs.NumberedLaws.{numbered_front, numbered_behind, numbered_more}
@@ -58,7 +55,7 @@ pub record FirstMember (levels : ℕ) (names : Dictionary) (schema table : List 
   pub rest : SchemaFields
   pub are : columns ≡ named name node rest
   pub end : ℕ
-  pub ends : place_end body place ≡ some end
+  pub ends : place_end body place ≡ Some end
   pub fits : (place + 3 ≤ end) × (end ≤ length body)
   pub here : PlaceThere levels names schema table (field_node schema field) (part body (place + 3) end)
   pub here_is : here.under ≡ node
@@ -83,11 +80,11 @@ module _ {levels : ℕ} {names : Dictionary} {schema table : List ℕ} {field to
 
   pub first_member : FirstMember levels names schema table field to body place there.columns piece more
   unfolding first
-  first_member = go (place_frame body place) refl
+  first_member = go (place_end body place) refl
     where
-      go : (r : Frame) → r ≡ place_frame body place → FirstMember levels names schema table field to body place there.columns piece more
-      go Cut told = absurd (member_whole body place there some_field_lem told refl)
-      go (Ends end) told =
+      go : (r : Option ℕ) → r ≡ place_end body place → FirstMember levels names schema table field to body place there.columns piece more
+      go None told = absurd (member_whole body place there some_field_lem told refl)
+      go (Some end) told =
           let fits = member_fits body place there some_field_lem told refl in
           let both : piece ∷ more ≡ piece_in body place end ∷ pieces_in (drop end body) = sym are ∙ member_pieces body place there some_field_lem told refl in
           let is : piece.body ≡ part body (place + 3) end = ap (λ (p : Piece). p.body) (cons_first both) in
@@ -177,23 +174,23 @@ module _ (levels : ℕ) (names normal : Dictionary) (ranks schema table area bod
         subst (λ (s : List ℕ). MemberReady levels ranks schema table area body places ids floor place field (record { id = id; bytes = s })) same (place_ready place field one.end id (place_ready_lem numbered) h one.ends)
 
     -- the place is present: an id has its name
-    present : (b : ℕ) (bs : List ℕ) (looked : Looked) → NamedBy names one.name looked → Numbered names normal ranks (add_id (b ∷ bs) looked (HereIds ++ LaterIds))
+    present : (b : ℕ) (bs : List ℕ) (looked : Option InputId) → NamedBy names one.name looked → Numbered names normal ranks (add_id (b ∷ bs) looked (HereIds ++ LaterIds))
         → 0 < field → {notes : List Note} {ms : List Member} → InStep Is notes ms
         → InStep Is (add_note (b ∷ bs) looked place field notes) (add_member (b ∷ bs) looked HereBytes ms)
     unfolding add_note add_member add_id
-    present b bs (At id) known numbered h later =
+    present b bs (Some id) known numbered h later =
         one_ready refl (
           ready_here id.0 (numbered_front HereIds LaterIds (numbered_more id.0 (HereIds ++ LaterIds) numbered)) h,
           below_held (length ranks) (id.0 ∷ (HereIds ++ LaterIds)) numbered.below id.0 (held_first id.0 (HereIds ++ LaterIds)),
         )
         later
-    present b bs Nowhere known numbered h later = let is = known.looked_is in let z : ◌≡◌ {A = ℕ} 0 1 = cc in absurd (omega arith)
+    present b bs None known numbered h later = let is = known.looked_is in let z : ◌≡◌ {A = ℕ} 0 1 = cc in absurd (omega arith)
 
-    later_numbered : (b : List ℕ) (looked : Looked) → Numbered names normal ranks (add_id b looked (HereIds ++ LaterIds)) → Numbered names normal ranks LaterIds
+    later_numbered : (b : List ℕ) (looked : Option InputId) → Numbered names normal ranks (add_id b looked (HereIds ++ LaterIds)) → Numbered names normal ranks LaterIds
     unfolding add_id
     later_numbered [] looked numbered = numbered_behind HereIds LaterIds numbered
-    later_numbered (b ∷ bs) (At id) numbered = numbered_behind HereIds LaterIds (numbered_more id.0 (HereIds ++ LaterIds) numbered)
-    later_numbered (b ∷ bs) Nowhere numbered = numbered_behind HereIds LaterIds numbered
+    later_numbered (b ∷ bs) (Some id) numbered = numbered_behind HereIds LaterIds (numbered_more id.0 (HereIds ++ LaterIds) numbered)
+    later_numbered (b ∷ bs) None numbered = numbered_behind HereIds LaterIds numbered
 
     -- the place is present, or it is not
     step_by : (b : List ℕ) → piece.body ≡ b → Numbered names normal ranks (add_id b (looked_at table field) (HereIds ++ LaterIds)) → 0 < field

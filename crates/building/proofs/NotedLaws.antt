@@ -1,4 +1,5 @@
 -- An object's members written, last to first: those from one on stand up to the end.
+use Rattle.std.specs.Prelude.{Some, None, Option}
 use mathlib.Core.Bool.{true}
 use mathlib.Core.List.{List, [], map}
 use mathlib.Core.Path.{◌≡◌, refl, sym, ap, subst, ◌∙◌}
@@ -16,9 +17,8 @@ use Rattle.paper.specs.Bounds.{most_walked}
 use Rattle.paper.specs.Values.{child_bytes, meaning_of}
 use Rattle.paper.specs.Words.{numbers, all_below, joined}
 use Rattle.putting.proofs.PutLaws.{told_length, told_room, ends_lie, put_object, object_holds}
+use Rattle.runs.proofs.NumbersRunLaws.{run_length}
 use Rattle.putting.specs.Put.{Room, PutAs, full}
-use Rattle.putting.specs.declared.Put.TheVariants.{At, Full}
-use Rattle.putting.specs.declared.Put.{Put}
 use Rattle.rebuilt.specs.Members.{Member, object_of}
 use Rattle.writing.proofs.RewrittenLaws.{rewritten_filled}
 use Rattle.writing.specs.Ends.{EndsAt, Lies, Lying}
@@ -104,7 +104,7 @@ module _ {levels : ℕ} {ranks schema table area body places₀ ids₀ : List �
             → SomeMember levels ranks schema table area body left-places left_ids floor at field
         noted_member left-places left_ids is-places is-ids = record { one = member_in ready.all (i - 1); ready = own left-places left_ids is-places is-ids }
 
-        module _ {after : List ℕ} {r : Put} (left-places left_ids : ℕ) (is-places : left-places ≡ length places - 2 * count) (is-ids : left_ids ≡ length ids - 2 * count)
+        module _ {after : List ℕ} {r : Option ℕ} (left-places left_ids : ℕ) (is-places : left-places ≡ length places - 2 * count) (is-ids : left_ids ≡ length ids - 2 * count)
             (put : (one : Member) → MemberReady levels ranks schema table area body left-places left_ids floor at field one → PutAs one.bytes out after floor start r) where
           one_ready : MemberReady levels ranks schema table area body left-places left_ids floor at field (member_in ready.all (i - 1))
           one_ready = own left-places left_ids is-places is-ids
@@ -118,7 +118,7 @@ module _ {levels : ℕ} {ranks schema table area body places₀ ids₀ : List �
           own_put : PutAs (get_or (bytes_of ready.all) (i - 1) []) out after floor start r
           own_put = rw same_part (put (member_in ready.all (i - 1)) one_ready)
 
-          pub noted_full : r ≡ Full → (last : List ℕ) → PutAs (object_of ranks ready.all) out₀ last floor end Full
+          pub noted_full : r ≡ None → (last : List ℕ) → PutAs (object_of ranks ready.all) out₀ last floor end None
           unfolding object_of
           noted_full e last =
               let before = parts_full (seen.parts ready) (i - 1) (omega arith) own_put e in
@@ -139,38 +139,43 @@ module _ {levels : ℕ} {ranks schema table area body places₀ ids₀ : List �
     lie : i ≡ 0 → Lies out start end (bytes_of ready.all)
     lie e = ends_lie (bytes_of ready.all) (noted_done e).1 (seen.parts ready).fits (noted_done e).0
 
-    pub noted_lying : i ≡ 0 → Lying out start end count
-    noted_lying e = record { parts = bytes_of ready.all; lie = lie e; count_is = many }
-
-    pub noted_few : count ≤ most_walked
-    noted_few = let few = ready.few in omega arith
-
     pub noted-ids_in : 2 * count ≤ length ids
     noted-ids_in = let room = ready.noted.ids_room in let same = seen.ids_size in omega arith
 
     ids_same : numbers 2 count ids ≡ numbers 2 count ids₀
     ids_same = numbers_front count ids ids₀ noted-ids_in ready.noted.ids_room seen.ids_front
 
-    pub noted_ranked : all_below (length ranks) (numbers 2 count ids) ≡ true
-    noted_ranked = rw ids_same ready.ranked
+    -- the run of its ids
+    module _ {run : List ℕ} (run_is : run ≡ numbers 2 count ids) where
+      run_many : length run ≡ count
+      run_many = ap length run_is ∙ run_length 2 count ids (omega arith) (let room = noted-ids_in in omega arith)
 
-    pub noted_put : i ≡ 0 → {last : List ℕ} {r : Put}
-        → ((parts : List (List ℕ)) → Lies out start end parts → length parts ≡ count → PutAs (object_head (ranks_at ranks (numbers 2 count ids)) parts) out last floor start r)
-        → PutAs (object_of ranks ready.all) out₀ last floor end r
-    unfolding object_of
-    noted_put e {last} {r} head =
-        let ids_are : numbers 2 count ids ≡ map (λ (m : Member). m.id) ready.all = ids_same ∙ ready.noted.ids_are ∙ sym ready.ids_are in
-        put_object (bytes_of ready.all) (seen.parts ready).fits (noted_done e).0 (ranks_at ranks (map (λ (m : Member). m.id) ready.all))
-        (rw ids_are at (head (bytes_of ready.all) (lie e) many))
+      pub noted_lying : i ≡ 0 → Lying out start end (length run)
+      noted_lying e = record { parts = bytes_of ready.all; lie = lie e; count_is = many ∙ sym run_many }
+
+      pub noted_few : length run ≤ most_walked
+      noted_few = let few = ready.few in omega (arith, run_many)
+
+      pub noted_ranked : all_below (length ranks) run ≡ true
+      noted_ranked = rw (run_is, ids_same) ready.ranked
+
+      pub noted_put : i ≡ 0 → {last : List ℕ} {r : Option ℕ}
+          → ((parts : List (List ℕ)) → Lies out start end parts → length parts ≡ length run → PutAs (object_head (ranks_at ranks run) parts) out last floor start r)
+          → PutAs (object_of ranks ready.all) out₀ last floor end r
+      unfolding object_of
+      noted_put e {last} {r} head =
+          let ids_are : run ≡ map (λ (m : Member). m.id) ready.all = run_is ∙ ids_same ∙ ready.noted.ids_are ∙ sym ready.ids_are in
+          put_object (bytes_of ready.all) (seen.parts ready).fits (noted_done e).0 (ranks_at ranks (map (λ (m : Member). m.id) ready.all))
+          (rw ids_are at (head (bytes_of ready.all) (lie e) (many ∙ sym run_many)))
 
   -- ---- one member more
 
   pub noted_next : (ready : NotesReady levels ranks schema table area body places₀ ids₀ count floor) {out₀ places ids out : List ℕ} {end start i : ℕ}
       (seen : NotedSeen levels ranks schema table area body places₀ ids₀ out₀ floor end count places ids out start i) → 0 < i
       → (at field : ℕ) → at ≡ get_or places (2 * (i - 1)) 0 → field ≡ get_or places (2 * (i - 1) + 1) 0
-      → {after : List ℕ} {r : Put} (left-places left_ids : ℕ) → left-places ≡ length places - 2 * count → left_ids ≡ length ids - 2 * count
+      → {after : List ℕ} {r : Option ℕ} (left-places left_ids : ℕ) → left-places ≡ length places - 2 * count → left_ids ≡ length ids - 2 * count
       → ((one : Member) → MemberReady levels ranks schema table area body left-places left_ids floor at field one → PutAs one.bytes out after floor start r)
-      → {next : ℕ} → r ≡ At next
+      → {next : ℕ} → r ≡ Some next
       → (used : ℕ) → used ≡ 2 * count
       → (back-places : List ℕ) → length back-places ≡ length (take (length places - used) (drop used places))
       → (back-ids : List ℕ) → length back-ids ≡ length (take (length ids - used) (drop used ids))

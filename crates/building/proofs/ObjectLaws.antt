@@ -1,17 +1,19 @@
 -- An object's places beside its leftover: what the noting of them asks, and the notes as those of members that can be written.
+use Rattle.dictionary.specs.declared.ids.InputId.{InputId}
+use Rattle.std.specs.Prelude.{Some, None, Option}
 use mathlib.Core.List.{List, [], ◌∷◌}
-use mathlib.Core.Logic.{◌⊎◌, inl, inr}
 use mathlib.Core.Path.{◌≡◌, refl, sym, ap, ◌∙◌}
 use Prim.Native.Nat.{ℕ, suc, ◌+◌, ◌-◌, ◌*◌, ◌≤◌, ◌<◌}
 use native.Mathlib.Nat.{mul-le-mul, le_refl}
 use native.Mathlib.Omega.{arith}
 use lib.ListN.{length}
-use Rattle.containers.proofs.LayoutLaws.{ids_in, starts_in, starts_there, ids_there, starts_same, ids_same}
-use Rattle.dictionary.proofs.NumbersRunLaws.{rest, run_length}
+use Rattle.containers.proofs.LayoutLaws.{ids_there, ids_same, ids_starts_length}
+use Rattle.runs.proofs.NumbersRunLaws.{rest, run_length}
 use Rattle.containers.proofs.WalkLaws.{below_more}
-use Rattle.containers.specs.Layouts.{Container, LaidOut}
-use Rattle.containers.specs.declared.shape.Layout.{Layout}
+use Rattle.containers.specs.Layouts.{HeadThere}
+use Rattle.heads.proofs.HeadLaws.{container_some}
 use Rattle.marking.proofs.ValueLaws.{value_begins}
+use Rattle.numbers.specs.Little.{number_at}
 use Rattle.paper.proofs.WordLaws.{some_there}
 use Rattle.noting.specs.Adding.{SomeMembers, LeftRun}
 use Rattle.noting.specs.Notes.{Note, add_note, left_notes, field_notes, Noted, member_notes, note_rank}
@@ -20,12 +22,9 @@ use Rattle.paper.specs.Framing.{Piece}
 use Rattle.paper.specs.Limits.{most_row, most_schema}
 use Rattle.paper.specs.Schemas.{SchemaFields, none_named, named}
 use Rattle.paper.specs.Values.{head_size_of, area_of, starts_of, ids_of, meaning_of}
-use Rattle.paper.specs.Words.{at, numbers}
+use Rattle.paper.specs.Words.{at}
 use Rattle.paper.specs.declared.Reading.TheVariants.{ObjectHead}
-use Rattle.lookup.specs.declared.Looked.TheVariants.{At, Nowhere}
-use Rattle.lookup.specs.declared.Looked.{Looked}
 use Rattle.putting.specs.Put.{PutAs}
-use Rattle.putting.specs.declared.Put.{Put}
 use Rattle.rebuilt.specs.Members.{Member, object_of}
 use Rattle.rebuilt.specs.Rebuilt.{pieces_in}
 use Rattle.schemas.proofs.FieldsStandLaws.{one_list}
@@ -37,11 +36,11 @@ use Rattle.building.proofs.NotesLaws.{InStep, merged_ready, merged_length, ready
 use Rattle.building.specs.Building.{Enough, MembersReady, MemberReady, NotesReady, members_rebuilt}
 
 -- Not more fields are noted than there are pieces.
-add_few : (b : List ℕ) (looked : Looked) (place field : ℕ) (notes : List Note) (n : ℕ) → length notes ≤ n → length (add_note b looked place field notes) ≤ suc n
+add_few : (b : List ℕ) (looked : Option InputId) (place field : ℕ) (notes : List Note) (n : ℕ) → length notes ≤ n → length (add_note b looked place field notes) ≤ suc n
 unfolding add_note
 add_few [] looked place field notes n h = omega arith
-add_few (b ∷ bs) (At id) place field notes n h = omega arith
-add_few (b ∷ bs) Nowhere place field notes n h = omega arith
+add_few (b ∷ bs) (Some id) place field notes n h = omega arith
+add_few (b ∷ bs) None place field notes n h = omega arith
 
 fields_few : (columns : SchemaFields) (schema table : List ℕ) (field place : ℕ) (pieces : List Piece) → length (field_notes columns schema table field place pieces) ≤ length pieces
 unfolding field_notes
@@ -58,55 +57,54 @@ lefts_few (id ∷ ids) (start ∷ starts) = let more = lefts_few ids starts in o
 
 module _ {levels : ℕ} {ranks schema table : List ℕ} {from to : ℕ} {left body : List ℕ} {room-places room-ids floor : ℕ}
     (ready : MembersReady levels ranks schema table from to left body room-places room-ids floor) (c i w : ℕ) (is : reading_of (at left 0) ≡ ObjectHead c i w) where
-  container : Container left c i w
-  container = left_container ready.beside c i w is
+  head_there : HeadThere left c i w
+  head_there = left_container ready.beside c i w is
 
   least : 1 ≤ i
   least = left_least ready.beside c i w is
 
-  module _ (l : Layout) (laid : LaidOut left c i w l) where
-    -- an id and an offset of each member stand in the leftover's head
-    head_long : 2 * l.count ≤ length left
+  -- Of its ids and its starts:
+  module _ {left_ids starts : List ℕ} (ids_are : left_ids ≡ ids_of c i left) (starts_are : starts ≡ starts_of c i w left) where
+    abbrev many : ℕ
+    many = number_at left 1 c
+
+    -- as many ids as its count says,
+    left_many : length left_ids ≡ many
+    left_many =
+        ap length (ids_are ∙ sym (ids_same left c i w head_there many refl))
+        ∙ run_length i many (rest left (1 + c)) least (ids_there left c i w head_there many refl)
+
+    -- an id and an offset of each member in its head.
+    head_long : 2 * length left_ids ≤ length left
     unfolding head_size_of
     head_long =
-        let inside = laid.area_there in
-        let size = laid.area_is in
-        let ids : l.count * 1 ≤ l.count * i = mul-le-mul (omega arith) least in
-        let offsets : (l.count + 1) * 1 ≤ (l.count + 1) * w = mul-le-mul (omega arith) container.least in
-        omega arith
-
-    run_ids : numbers i l.count (rest left (1 + c)) ≡ ids_of c i left
-    run_ids = ids_same left c i w container l laid
-
-    run_starts : numbers w l.count (rest left l.starts) ≡ starts_of c i w left
-    run_starts = rw laid.width_is at (starts_same left c i w container l laid)
+        let inside = (container_some left c i w head_there.fills).head_there in
+        let ids : many * 1 ≤ many * i = mul-le-mul le_refl_many least in
+        let offsets : (many + 1) * 1 ≤ (many + 1) * w = mul-le-mul (omega arith) head_there.least in
+        omega (arith, left_many)
+      where
+        le_refl_many : many ≤ many
+        le_refl_many = omega arith
 
     -- what the noting asks
-    pub object_some : SomeMembers ranks schema table from to (numbers i l.count (rest left (1 + c))) body
+    pub object_some : SomeMembers ranks schema table from to left_ids body × LeftRun left_ids starts
     object_some =
-        record {
-          levels = levels;
-          names = ready.names;
-          there = ready.there;
-          few = ready.ground.few;
-          ranked = ready.ground.ranked;
-          known = rw run_ids (left_known ready.beside c i w is);
-        }
+        let short = ready.beside.short in (
+          record {
+            levels = levels;
+            names = ready.names;
+            there = ready.there;
+            few = ready.ground.few;
+            ranked = ready.ground.ranked;
+            known = rw ids_are (left_known ready.beside c i w is);
+          },
+          record {
+            as_many = rw (ids_are, starts_are) (sym (ids_starts_length left c i w head_there least));
+            starts_low = rw starts_are (below_more (length left) most_row (starts_of c i w left) (omega arith) (left_low ready.beside c i w is));
+          },
+        )
 
-    pub object_run : LeftRun (rest left (1 + c)) i (rest left l.starts) w l.count
-    object_run =
-        let short = ready.beside.short in
-        record {
-          ids_in = ids_there left c i w container l laid;
-          id_least = least;
-          id_most = container.id_most;
-          starts_in = rw laid.width_is at (starts_there left c i w container l laid);
-          width_least = container.least;
-          width_most = container.most;
-          starts_low = rw run_starts (below_more (length left) most_row (starts_of c i w left) (omega arith) (left_low ready.beside c i w is));
-        }
-
-    pub object_sizes : (length schema ≤ most_schema) × (length body ≤ most_row) × (2 * l.count + length body ≤ room-places) × (2 * l.count + length body ≤ room-ids)
+    pub object_sizes : (length schema ≤ most_schema) × (length body ≤ most_row) × (2 * length left_ids + length body ≤ room-places) × (2 * length left_ids + length body ≤ room-ids)
     object_sizes =
         let small = ready.enough.small in
         let places_room = ready.enough.places_room in
@@ -118,7 +116,7 @@ module _ {levels : ℕ} {ranks schema table : List ℕ} {from to : ℕ} {left bo
 
     module _ {places ids : List ℕ} (count : ℕ) (places-kept : length places ≡ room-places) (ids-kept : length ids ≡ room-ids)
         (told : (columns : SchemaFields) (inner : ℕ) → FieldsStand inner schema from to columns
-        → Noted (member_notes ranks (field_notes columns schema table from 0 (pieces_in body)) (left_notes (numbers i l.count (rest left (1 + c))) (numbers w l.count (rest left l.starts)))) places ids count) where
+        → Noted (member_notes ranks (field_notes columns schema table from 0 (pieces_in body)) (left_notes left_ids starts)) places ids count) where
       module _ (columns : SchemaFields) (stand : FieldsStand levels schema from to columns) where
         abbrev typed : List Note
         typed = field_notes columns schema table from 0 (pieces_in body)
@@ -127,12 +125,12 @@ module _ {levels : ℕ} {ranks schema table : List ℕ} {from to : ℕ} {left bo
         lefts = left_notes (ids_of c i left) (starts_of c i w left)
 
         noted : Noted (member_notes ranks typed lefts) places ids count
-        noted = rw (run_ids, run_starts) at (told columns levels stand)
+        noted = rw (ids_are, starts_are) at (told columns levels stand)
 
         same : ready.there.columns ≡ columns
         same = one_list ready.there.stand stand
 
-        counted : (count ≤ length (pieces_in body) + l.count) × (3 * length (pieces_in body) ≤ length body)
+        counted : (count ≤ length (pieces_in body) + length left_ids) × (3 * length (pieces_in body) ≤ length body)
         unfolding member_notes
         counted =
             let size = noted.size in
@@ -140,8 +138,7 @@ module _ {levels : ℕ} {ranks schema table : List ℕ} {from to : ℕ} {left bo
             let some_fields = fields_few columns schema table from 0 (pieces_in body) in
             let some-lefts = lefts_few (ids_of c i left) (starts_of c i w left) in
             let long = members_long body (pieces_in body) from 0 refl ready.there (omega arith) in
-            let many : length (ids_of c i left) ≡ l.count =
-            ap length (sym run_ids) ∙ run_length i l.count (rest left (1 + c)) least (ids_there left c i w container l laid) in
+            let same_ids : length left_ids ≡ length (ids_of c i left) = ap length ids_are in
             (omega arith, omega arith)
 
         left_room : (n : ℕ) → 3 * length (pieces_in body) + n ≤ length body → Enough n (length places - 2 * count) (length ids - 2 * count) floor
@@ -187,7 +184,7 @@ module _ {levels : ℕ} {ranks schema table : List ℕ} {from to : ℕ} {left bo
                   (ready_at in_step k (let size = noted.size in omega arith)).0;
             }
 
-        pub object_put : (area : List ℕ) → area ≡ area_of c i w left → {before after : List ℕ} {end : ℕ} {r : Put}
+        pub object_put : (area : List ℕ) → area ≡ area_of c i w left → {before after : List ℕ} {end : ℕ} {r : Option ℕ}
             → ((all : NotesReady levels ranks schema table area body places ids count floor) → PutAs (object_of ranks all.all) before after floor end r)
             → PutAs (object_of ranks (members_rebuilt columns levels ranks schema table from left body)) before after floor end r
         unfolding notes
@@ -203,11 +200,3 @@ left_begins {levels} {left = left} ready =
     let short = ready.beside.short in
     value_begins
     (record { names = ready.names; meant = some_there (meaning_of (suc levels) ready.names left) ready.beside.means; room = le_refl (length ready.names); small = omega arith })
-
--- The reading of its first byte is that of an object, the fourth: it is none of the others.
-pub no_other : (◌≡◌ {A = ℕ} 3 0) ⊎ ((◌≡◌ {A = ℕ} 3 1) ⊎ ((◌≡◌ {A = ℕ} 3 2) ⊎ ((◌≡◌ {A = ℕ} 3 4) ⊎ (◌≡◌ {A = ℕ} 3 5)))) → ⊥
-no_other (inl e) = omega arith
-no_other (inr (inl e)) = omega arith
-no_other (inr (inr (inl e))) = omega arith
-no_other (inr (inr (inr (inl e)))) = omega arith
-no_other (inr (inr (inr (inr e)))) = omega arith

@@ -1,4 +1,5 @@
 -- What was put for the parts of a place, or for what is typed by the kind of its node, was put for the whole.
+use Rattle.std.specs.Prelude.{Option}
 use mathlib.Core.List.{List, [], ◌∷◌}
 use mathlib.Core.Path.{◌≡◌, ◌∙◌}
 use Prim.Native.Nat.{ℕ, ◌+◌, ◌-◌}
@@ -10,7 +11,6 @@ use Rattle.places.specs.Parts.{parts_of}
 use Rattle.places.specs.declared.parts.Parts.TheVariants.{Empty, Leftover, Typed, Both}
 use Rattle.places.specs.declared.parts.Parts.{Parts}
 use Rattle.putting.specs.Put.{PutAs}
-use Rattle.putting.specs.declared.Put.{Put}
 use Rattle.rebuilt.proofs.PartwiseLaws.{place_is-typed}
 use Rattle.rebuilt.specs.Members.{no_left, object_of}
 use Rattle.rebuilt.specs.Rebuilt.{cell_value, rebuilt_by, place_rebuilt, typed_rebuilt}
@@ -30,7 +30,7 @@ module _ (levels : ℕ) (ranks schema table : List ℕ) (node : ℕ) (body : Lis
         ≡ rebuilt_by [] (0x00 ∷ []) (rewritten levels ranks) (typed_rebuilt under levels ranks schema table node) q body
     by_parts e under = place_is-typed under levels ranks schema table node body ∙ rw (← is, e)
 
-    module _ {before after : List ℕ} {floor end : ℕ} {r : Put} where
+    module _ {before after : List ℕ} {floor end : ℕ} {r : Option ℕ} where
       pub placed_empty : p ≡ Empty → PutAs (0x00 ∷ []) before after floor end r
           → (under : Schema) → Stands levels schema node under → PutAs (place_rebuilt under levels ranks schema table node body) before after floor end r
       unfolding rebuilt_by
@@ -54,7 +54,7 @@ module _ (levels : ℕ) (ranks schema table : List ℕ) (node : ℕ) (body : Lis
       unfolding rebuilt_by
       placed_both e put under stands = rw (by_parts e under) (put under stands)
 
-module _ (levels : ℕ) (ranks schema table : List ℕ) (node : ℕ) (left body : List ℕ) {k : Kind} (is : k ≡ kind_at schema node) {before after : List ℕ} {floor end : ℕ} {r : Put} where
+module _ (levels : ℕ) (ranks schema table : List ℕ) (node : ℕ) (left body : List ℕ) {k : Kind} (is : k ≡ kind_at schema node) {before after : List ℕ} {floor end : ℕ} {r : Option ℕ} where
   pub put_cell : {code : ℕ} → k ≡ ColumnKind code → PutAs (cell_value code body) before after floor end r
       → (under : Schema) → Stands levels schema node under → PutAs (typed_rebuilt under levels ranks schema table node left body) before after floor end r
   unfolding typed_rebuilt

@@ -1,6 +1,6 @@
 -- What a writer stands on gives what each call inside it asks: a place by its parts, and what is typed by the kind of its node.
+use Rattle.std.specs.Prelude.{Some}
 use mathlib.Core.List.{List, [], ◌++◌}
-use mathlib.Core.Option.{some}
 use mathlib.Core.Path.{◌≡◌, refl}
 use Prim.Native.Nat.{ℕ, zero, suc, ◌+◌, ◌-◌, ◌≤◌}
 use native.Mathlib.Omega.{arith}
@@ -47,7 +47,7 @@ part_size : (s : List ℕ) (from to : ℕ) → from ≤ to → to ≤ length s �
 part_size s from to ordered within = rw (length-take, length-drop) (omega arith)
 
 -- The leftover that is not there is an object without members.
-no_left-means : (levels : ℕ) (names : Dictionary) → 1 ≤ levels → meaning_of levels names no_left ≡ some (object no_fields)
+no_left-means : (levels : ℕ) (names : Dictionary) → 1 ≤ levels → meaning_of levels names no_left ≡ Some (object no_fields)
 unfolding running
 no_left-means zero names h = absurd (omega arith)
 no_left-means (suc levels) names h = refl

@@ -1,7 +1,6 @@
 -- What the writers of a lawful row stand on: bytes that are lawful under a node, ids that are numbered, tables with room for all
 -- that is to be noted, and a floor so high that every leftover can be written before its length is known.
-use Rattle.std.specs.Prelude.{List, [], map, ◌≡◌, true, ℕ, suc, ◌+◌, ◌-◌, ◌*◌, ◌≤◌, ◌<◌, length, get_or}
-use Rattle.std.proofs.Math.Option.{some}
+use Rattle.std.specs.Prelude.{List, [], map, ◌≡◌, true, ℕ, suc, ◌+◌, ◌-◌, ◌*◌, ◌≤◌, ◌<◌, length, get_or, Some}
 use Rattle.marking.specs.Ids.{ids_in}
 use Rattle.noting.specs.Notes.{Note, Noted}
 use Rattle.paper.specs.Bounds.{most_names, most_walked}
@@ -62,7 +61,7 @@ pub record PlaceReady (levels : ℕ) (ranks schema table : List ℕ) (node : ℕ
 -- A leftover object of a place with so many levels left.
 pub record LeftObject (levels : ℕ) (names normal : Dictionary) (ranks left : List ℕ) : Type 0 where
   pub members : Fields
-  pub means : meaning_of levels names left ≡ some (object members)
+  pub means : meaning_of levels names left ≡ Some (object members)
   pub short : length left ≤ most_leftover
   pub numbered : Numbered names normal ranks (ids_in levels left)
   pub bytes : Bytes left
@@ -102,14 +101,14 @@ pub record MembersReady (levels : ℕ) (ranks schema table : List ℕ) (from to 
 
 -- A leftover's member in its area, which has no field; a place in the body, by its field.
 pub data MemberReady (levels : ℕ) (ranks schema table area body : List ℕ) (places ids floor : ℕ) : (at field : ℕ) → Member → Type 0 where
-  left_ready : (at size id : ℕ) (names normal : Dictionary) (d : Doc) → child_extent area at ≡ some size
-      → meaning_of levels names (child_bytes area (record { start = at; size = size })) ≡ some d
+  left_ready : (at size id : ℕ) (names normal : Dictionary) (d : Doc) → child_extent area at ≡ Some size
+      → meaning_of levels names (child_bytes area (record { start = at; size = size })) ≡ Some d
       → Numbered names normal ranks (ids_in levels (child_bytes area (record { start = at; size = size })))
       → Bytes (child_bytes area (record { start = at; size = size })) → 2 * size ≤ floor → size ≤ most_leftover → length area ≤ most_walked
       → MemberReady levels ranks schema table area body places ids floor at 0
       (record { id = id; bytes = rewritten levels ranks (child_bytes area (record { start = at; size = size })) })
   place_ready : (at field end id : ℕ) (ready : PlaceReady levels ranks schema table (field_node schema field) (part body (at + 3) end) places ids floor)
-      → 0 < field → place_end body at ≡ some end
+      → 0 < field → place_end body at ≡ Some end
       → MemberReady levels ranks schema table area body places ids floor at field
       (record { id = id; bytes = place_rebuilt ready.there.under levels ranks schema table (field_node schema field) (part body (at + 3) end) })
 

@@ -5,4 +5,4 @@
 
 mod builder;
 
-pub use builder::place;
+pub use builder::Build;

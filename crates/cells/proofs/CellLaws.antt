@@ -1,11 +1,12 @@
 -- The answers of the reader of one cell: one law for each, with the tests that led there.
+use Rattle.std.specs.Prelude.{Option, None, Some, Ok, Err}
 use mathlib.Core.Bool.{Bool, true, false, not, cond}
 use mathlib.Core.List.{List}
-use mathlib.Core.Option.{Option, none, some}
 use mathlib.Core.Path.{◌≡◌, refl, sym, ap, ◌∙◌}
 use Prim.Native.Nat.{ℕ, ◌≤◌, ◌<◌}
 use native.Mathlib.Omega.{arith}
 use borrow.Author.Tests.{eq-eqb, ne_eqb, eqb-true, eqb-false, le-leb, lt-leb, not-true, not-false}
+use Rattle.std.proofs.lemmas.Bool.Decides.{nat_tests}
 use lib.Dec.{leb, eqb}
 use lib.Ieee.{of_bits, nan_bits, binary32, binary64}
 use lib.ListN.{length, get_or, take, drop, length-drop}
@@ -17,15 +18,13 @@ use Rattle.signed.specs.Signed.{signed_of}
 use Rattle.paper.specs.Cells.{body_kind, cell_by, cell_meaning, number_cell, handed_out}
 use Rattle.paper.specs.FirstBytes.{payload_sizes}
 use Rattle.paper.specs.Limits.{most_cell}
-use Rattle.paper.specs.Meaning.{Scalar, boolean, payload, text_meaning}
-use Rattle.paper.specs.Operations.{cell_outcome, cell_read_by, cell_answer}
-use Rattle.paper.specs.Refusals.{reached, require, obtain}
+use Rattle.paper.specs.Meaning.{Scalar, payload, text_meaning}
+use Rattle.paper.specs.Operations.{cell_answer}
+use Rattle.paper.specs.Refusals.{require, obtain, Outcome}
 use Rattle.paper.specs.Schemas.{column_code, column_of}
 use Rattle.paper.specs.Words.{at, given, is_there}
 use Rattle.paper.specs.declared.Cell.TheVariants.{Boolean, Integer, Float, Double, FloatNan, DoubleNan, Length, Uuid}
 use Rattle.paper.specs.declared.Cell.{Cell}
-use Rattle.paper.specs.declared.CellAnswer.TheVariants.{Read, Refused}
-use Rattle.paper.specs.declared.CellAnswer.{CellAnswer}
 use Rattle.paper.specs.declared.Refusal.TheVariants.{TooLong, BadSchema, BadRow}
 use Rattle.paper.proofs.WordLaws.{never, some_there}
 
@@ -35,28 +34,21 @@ abbrev Means : (code : ℕ) → List ℕ → Option Scalar
 Means code s = cell_meaning (record { code = code }) s
 
 module _ (code : ℕ) (s : List ℕ) where
-  pub yes_no-size : code ≡ 1 → (length s ≡ 1 → ⊥) → false ≡ is_there (Means code s)
+  pub yes_no-size : code ≡ 1 → (length s ≡ 1 → ⊥) → eqb (length s) 1 ≡ is_there (Means code s)
   unfolding cell_meaning body_kind cell_by given is_there
-  yes_no-size e n = rw (e, ne_eqb (length s) 1 n)
+  yes_no-size e n = grind (arith, nat_tests)
 
   pub yes_no-content : code ≡ 1 → length s ≡ 1 → leb (at s 0) 1 ≡ is_there (Means code s)
   unfolding cell_meaning body_kind cell_by given is_there
-  yes_no-content e size = rw (e, eq-eqb (length s) 1 size) (go (leb (at s 0) 1))
-    where
-      go : (b : Bool) → b ≡ is_there (given b (some (boolean (eqb (at s 0) 1))))
-      go true = refl
-      go false = refl
+  yes_no-content e size = grind (arith, nat_tests)
 
-  pub binary_good : code ≡ 15 → true ≡ is_there (Means code s)
-  unfolding cell_meaning body_kind cell_by is_there
-  binary_good e = rw e
-
-  pub string_good : code ≡ 16 → true ≡ is_there (Means code s)
+  -- 15 is binary, 16 string
+  pub bytes_good : 15 ≤ code → code < 17 → true ≡ is_there (Means code s)
   unfolding cell_meaning body_kind cell_by text_meaning is_there
-  string_good e = rw e
+  bytes_good h k = grind (arith, nat_tests)
 
   module _ (one : code ≡ 1 → ⊥) (binary : code ≡ 15 → ⊥) (string : code ≡ 16 → ⊥) where
-    sized_means : Means code s ≡ given (eqb (length s) (get_or payload_sizes code 0)) (some (payload code s))
+    sized_means : Means code s ≡ given (eqb (length s) (get_or payload_sizes code 0)) (Some (payload code s))
     unfolding cell_meaning body_kind cell_by
     sized_means = rw (ne_eqb code 1 one, ne_eqb code 15 binary, ne_eqb code 16 string)
 
@@ -64,7 +56,7 @@ module _ (code : ℕ) (s : List ℕ) where
     unfolding given is_there
     sized_good size is = rw (sized_means, ← is) (go (eqb (length s) size))
       where
-        go : (b : Bool) → b ≡ is_there (given b (some (payload code s)))
+        go : (b : Bool) → b ≡ is_there (given b (Some (payload code s)))
         go true = refl
         go false = refl
 
@@ -73,8 +65,8 @@ module _ (code : ℕ) (s : List ℕ) where
 
 -- ---- what good bytes are handed out as
 
-abbrev Handed : (code : ℕ) → List ℕ → CellAnswer
-Handed code s = cell_read_by (obtain (Means code s) BadRow λ value. reached (handed_out value))
+abbrev Handed : (code : ℕ) → List ℕ → Outcome Cell
+Handed code s = (obtain (Means code s) BadRow λ value. Ok (handed_out value))
 
 module _ (code : ℕ) (s : List ℕ) (there : is_there (Means code s) ≡ true) where
   yes_no-there : code ≡ 1 → length s ≡ 1
@@ -82,34 +74,30 @@ module _ (code : ℕ) (s : List ℕ) (there : is_there (Means code s) ≡ true) 
     where
       go : (b : Bool) → eqb (length s) 1 ≡ b → length s ≡ 1
       go true f = eqb-true (length s) 1 f
-      go false f = never (sym (yes_no-size code s e (eqb-false (length s) 1 f) ∙ there))
+      go false f = never (sym (yes_no-size code s e (eqb-false (length s) 1 f) ∙ there) ∙ f)
 
   pub yes_no-some : code ≡ 1 → 0 < length s
   yes_no-some e = let size = yes_no-there e in omega arith
 
-  pub yes_no-read : code ≡ 1 → Read (Boolean (eqb (at s 0) 1)) ≡ Handed code s
-  unfolding cell_meaning body_kind cell_by given cell_read_by obtain handed_out
+  pub yes_no-read : code ≡ 1 → Ok (Boolean (eqb (at s 0) 1)) ≡ Handed code s
+  unfolding cell_meaning body_kind cell_by given obtain handed_out
   yes_no-read e =
       let size = yes_no-there e in
       let known : leb (at s 0) 1 ≡ true = yes_no-content code s e size ∙ there in
       rw (e, eq-eqb (length s) 1 size, known)
 
-  pub binary_read : code ≡ 15 → Read (Length (length s)) ≡ Handed code s
-  unfolding cell_meaning body_kind cell_by cell_read_by obtain handed_out
-  binary_read e = rw e
-
-  pub string_read : code ≡ 16 → Read (Length (length s)) ≡ Handed code s
-  unfolding cell_meaning body_kind cell_by text_meaning cell_read_by obtain handed_out
-  string_read e = rw e
+  pub bytes_read : 15 ≤ code → code < 17 → Ok (Length (length s)) ≡ Handed code s
+  unfolding cell_meaning body_kind cell_by text_meaning obtain handed_out
+  bytes_read h k = grind (arith, nat_tests)
 
   pub number_asked : column_code code ≡ true → (code ≡ 1 → ⊥) → (code ≡ 15 → ⊥) → (code ≡ 16 → ⊥) → NumberSized code (length s)
   number_asked known one binary string = number_sized code (length s) known one binary string (sized_there code s one binary string there)
 
-  pub number_read : (code ≡ 1 → ⊥) → (code ≡ 15 → ⊥) → (code ≡ 16 → ⊥) → {r : Cell} → r ≡ number_cell code s → Read r ≡ Handed code s
-  unfolding given cell_read_by obtain handed_out
+  pub number_read : (code ≡ 1 → ⊥) → (code ≡ 15 → ⊥) → (code ≡ 16 → ⊥) → {r : Cell} → r ≡ number_cell code s → Ok r ≡ Handed code s
+  unfolding given obtain handed_out
   number_read one binary string {r} is =
       let size = sized_there code s one binary string there in
-      rw (sized_means code s one binary string, eq-eqb (length s) (get_or payload_sizes code 0) size, ne_eqb code 15 binary) (ap Read is)
+      rw (sized_means code s one binary string, eq-eqb (length s) (get_or payload_sizes code 0) size, ne_eqb code 15 binary) (ap Ok is)
 
 -- ---- in the order of the refusals
 
@@ -117,13 +105,13 @@ pub there_good : (code : ℕ) (s : List ℕ) (b : Bool) → b ≡ is_there (Mean
 there_good code s b is e = sym is ∙ not-false b e
 
 module _ (code : ℕ) (s : List ℕ) where
-  pub too_long : most_cell < length s → Refused TooLong ≡ cell_answer code s
-  unfolding cell_answer cell_read_by cell_outcome require
+  pub too_long : most_cell < length s → Err TooLong ≡ cell_answer code s
+  unfolding cell_answer require
   too_long h = rw (lt-leb (length s) most_cell h)
 
   module _ (fits : length s ≤ most_cell) {known : Bool} (is_Known : known ≡ column_code code) where
-    pub no_code : not known ≡ true → Refused BadSchema ≡ cell_answer code s
-    unfolding cell_answer cell_read_by cell_outcome require obtain column_of given
+    pub no_code : not known ≡ true → Err BadSchema ≡ cell_answer code s
+    unfolding cell_answer require obtain column_of given
     no_code e = rw (le-leb (length s) most_cell fits, ← is_Known, not-true known e)
 
     module _ (right : not known ≡ false) where
@@ -131,17 +119,17 @@ module _ (code : ℕ) (s : List ℕ) where
       known_code = sym is_Known ∙ not-false known right
 
       judged_answer : Handed code s ≡ cell_answer code s
-      unfolding cell_answer cell_outcome require obtain column_of given
+      unfolding cell_answer require obtain column_of given
       judged_answer = rw (le-leb (length s) most_cell fits, ← is_Known, not-false known right)
 
-      pub no_meaning : (b : Bool) → b ≡ is_there (Means code s) → not b ≡ true → Refused BadRow ≡ cell_answer code s
+      pub no_meaning : (b : Bool) → b ≡ is_there (Means code s) → not b ≡ true → Err BadRow ≡ cell_answer code s
       no_meaning b is e = go (Means code s) refl ∙ judged_answer
         where
-          go : (x : Option Scalar) → Means code s ≡ x → Refused BadRow ≡ cell_read_by (obtain x BadRow λ value. reached (handed_out value))
-          go none f = unfold cell_read_by in unfold obtain in refl
-          go (some value) f = never (sym (some_there (Means code s) f) ∙ sym is ∙ not-true b e)
+          go : (x : Option Scalar) → Means code s ≡ x → Err BadRow ≡ (obtain x BadRow λ value. Ok (handed_out value))
+          go None f = unfold obtain in refl
+          go (Some value) f = never (sym (some_there (Means code s) f) ∙ sym is ∙ not-true b e)
 
-      pub meaning : {r : Cell} → Read r ≡ Handed code s → Read r ≡ cell_answer code s
+      pub meaning : {r : Cell} → Ok r ≡ Handed code s → Ok r ≡ cell_answer code s
       meaning e = e ∙ judged_answer
 
 -- ---- numbers

@@ -1,54 +1,22 @@
 -- The type codes of a schema, range by range, and the sizes that cells of numbers have by their code.
 use mathlib.Core.Bool.{Bool, true, false, not, cond, ◌&&◌, ◌||◌}
-use mathlib.Core.Path.{◌≡◌, refl, sym, ◌∙◌}
-use Prim.Native.Nat.{ℕ, ◌≤◌, ◌<◌}
+use mathlib.Core.Path.{◌≡◌, refl}
+use Prim.Native.Nat.{ℕ, ◌<◌}
 use native.Mathlib.Omega.{arith}
-use borrow.Author.Tests.{eqb-true, leb-true, leb-false, ne_eqb, le-leb, lt-leb}
+use borrow.Author.Tests.{eqb-true, leb-true, ne_eqb}
 use lib.Dec.{eqb, leb}
 use lib.ListN.{get_or}
 use Rattle.cells.specs.Sized.{NumberSized}
 use Rattle.signed.specs.Signed.{SomeWidth}
 use Rattle.paper.specs.FirstBytes.{length_prefixed, payload_sizes}
 use Rattle.paper.specs.Schemas.{column_code}
+use Rattle.std.proofs.lemmas.Bool.Decides.{nat_tests}
 use Rattle.numbers.proofs.Table.{entry, and_left, and_right}
-use Rattle.paper.proofs.WordLaws.{never}
 
-module _ (code : ℕ) where
-  pub code_one : code ≡ 1 → true ≡ column_code code
-  unfolding column_code
-  code_one e = rw e
-
-  module _ (not-one : code ≡ 1 → ⊥) where
-    pub code_below : code < 3 → false ≡ column_code code
-    unfolding column_code
-    code_below h = rw (ne_eqb code 1 not-one, lt-leb 3 code h, lt-leb 11 code (omega arith))
-
-    pub code_first : 3 ≤ code → code < 8 → true ≡ column_code code
-    unfolding column_code
-    code_first h k = rw (ne_eqb code 1 not-one, le-leb 3 code h, le-leb code 7 (omega arith))
-
-    pub code_between : 8 ≤ code → code < 11 → false ≡ column_code code
-    unfolding column_code
-    code_between h k = rw (ne_eqb code 1 not-one, le-leb 3 code (omega arith), lt-leb code 7 h, lt-leb 11 code k)
-
-    pub code_second : 11 ≤ code → code < 21 → true ≡ column_code code
-    unfolding column_code
-    code_second h k =
-        rw (ne_eqb code 1 not-one, le-leb 3 code (omega arith), lt-leb code 7 (omega arith), le-leb 11 code h, le-leb code 20 (omega arith))
-
-    pub code_above : 21 ≤ code → false ≡ column_code code
-    unfolding column_code
-    code_above h =
-        rw (ne_eqb code 1 not-one, le-leb 3 code (omega arith), lt-leb code 7 (omega arith), le-leb 11 code (omega arith), lt-leb code 20 h)
-
+-- The largest is 20.
 pub code_most : (code : ℕ) → column_code code ≡ true → code < 21
-code_most code known = go (leb code 20) refl
-  where
-    go : (small : Bool) → leb code 20 ≡ small → code < 21
-    go true e = let h = leb-true code 20 e in omega arith
-    go false e =
-        let h = leb-false code 20 e in
-        never (sym known ∙ sym (code_above code (λ z. omega arith) (omega arith)))
+unfolding column_code
+code_most code known = grind (arith, nat_tests)
 
 -- ---- the sizes of numbers, by one test over the table of payload sizes
 

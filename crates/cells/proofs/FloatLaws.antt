@@ -1,10 +1,13 @@
 -- A NaN's pattern: the sign aside, it lies above that of infinity, whose exponent is all ones over digits of 0.
-use mathlib.Core.Bool.{Bool, true, false, not, ◌&&◌}
-use mathlib.Core.Path.{◌≡◌, refl}
+use Rattle.std.specs.Prelude.{Option, None, Some}
+use mathlib.Core.Bool.{Bool, true, false, not, cond, ◌&&◌}
+use mathlib.Core.Path.{◌≡◌, refl, sym, ap, ◌∙◌}
 use Prim.Native.Nat.{ℕ, ◌*◌, ◌/◌, ◌%◌, ◌≤◌, ◌<◌}
 use native.Mathlib.Omega.{arith}
 use borrow.Author.Tests.{eq-eqb, ne_eqb, eqb-true}
 use lib.Dec.{eqb}
+use Rattle.paper.specs.declared.Cell.{Cell}
+use Rattle.std.proofs.lemmas.Option.{same_Some}
 use lib.Ieee.{Format, binary32, binary64, hid, ones, top, nan_bits}
 
 -- Above infinity: the exponent is all ones, and the digits are not 0.
@@ -32,3 +35,20 @@ nan_not f b h = go (eqb (b % top f / hid f) (ones f)) refl
     go : (full : Bool) → eqb (b % top f / hid f) (ones f) ≡ full → full && not (eqb (b % hid f) 0) ≡ false
     go true e = rw (eq-eqb (b % hid f) 0 (digits_none f b h (eqb-true (b % top f / hid f) (ones f) e)))
     go false e = refl
+
+-- ---- a cell by the number that its bits are, or by the bits
+
+module _ {A : Type 0} (b : Bool) (x : A) {r : Option A} (told : r ≡ cond b None (Some x)) (number : A → Cell) (bits : Cell) where
+  pub by_number : {y : A} → r ≡ Some y → number y ≡ cond b bits (number x)
+  by_number {y} e = go b (sym told ∙ e)
+    where
+      go : (b : Bool) → cond b None (Some x) ≡ Some y → number y ≡ cond b bits (number x)
+      go true f = cc
+      go false f = ap number (sym (same_Some x y f))
+
+  pub by_bits : r ≡ None → bits ≡ cond b bits (number x)
+  by_bits e = go b (sym told ∙ e)
+    where
+      go : (b : Bool) → cond b None (Some x) ≡ None → bits ≡ cond b bits (number x)
+      go true f = refl
+      go false f = cc

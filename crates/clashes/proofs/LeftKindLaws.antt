@@ -1,7 +1,7 @@
 -- The kind of what lawful bytes mean goes by the low two bits of their first byte: 2 is an object, 3 an array.
+use Rattle.std.specs.Prelude.{Option, None, Some}
 use mathlib.Core.Bool.{Bool, true, false, cond, not, ◌&&◌, ◌||◌}
 use mathlib.Core.List.{List}
-use mathlib.Core.Option.{Option, none, some, some-injective}
 use mathlib.Core.Path.{◌≡◌, refl, sym, ◌∙◌}
 use Prim.Native.Nat.{ℕ, zero, suc, ◌+◌, ◌/◌, ◌%◌, ◌<◌}
 use native.Mathlib.Omega.{arith}
@@ -18,6 +18,7 @@ use Rattle.paper.specs.declared.Reading.{Reading}
 use Rattle.boxes.proofs.DoubleLaws.{meant}
 use Rattle.paper.proofs.MeaningLaws.{string_is, prefixed_is}
 use Rattle.paper.proofs.WordLaws.{never, given_some, then_some, some_there}
+use Rattle.std.proofs.lemmas.Option.{same_Some}
 
 -- ---- by the reading
 
@@ -41,17 +42,17 @@ array_head Nothing = false
 abbrev Kinds : Doc → (o a : Bool) → Type 0
 Kinds d o a = (is_object d ≡ o) × (is_array d ≡ a)
 
-primitive_kind : (type : ℕ) (p : List ℕ) {d : Doc} → primitive_meaning type p ≡ some d → Kinds d false false
+primitive_kind : (type : ℕ) (p : List ℕ) {d : Doc} → primitive_meaning type p ≡ Some d → Kinds d false false
 unfolding primitive_meaning is_object is_array
-primitive_kind zero p {d} e = rw (← some-injective null d e) (refl, refl)
-primitive_kind (suc zero) p {d} e = rw (← some-injective (scalar (boolean true)) d e) (refl, refl)
-primitive_kind (suc (suc zero)) p {d} e = rw (← some-injective (scalar (boolean false)) d e) (refl, refl)
+primitive_kind zero p {d} e = rw (← same_Some null d e) (refl, refl)
+primitive_kind (suc zero) p {d} e = rw (← same_Some (scalar (boolean true)) d e) (refl, refl)
+primitive_kind (suc (suc zero)) p {d} e = rw (← same_Some (scalar (boolean false)) d e) (refl, refl)
 primitive_kind (suc (suc (suc more))) p {d} e =
     let type = suc (suc (suc more)) in
-    let told = given_some (not (leb 8 type && leb type 10) || leb (at p 0) 38) (some (scalar (payload type p))) e in
-    rw (← some-injective (scalar (payload type p)) d told.1) (refl, refl)
+    let told = given_some (not (leb 8 type && leb type 10) || leb (at p 0) 38) (Some (scalar (payload type p))) e in
+    rw (← same_Some (scalar (payload type p)) d told.1) (refl, refl)
 
-by_reading : (inner : List ℕ → Option Doc) (names : Dictionary) (s : List ℕ) (r : Reading) {d : Doc} → meaning_by inner names r s ≡ some d
+by_reading : (inner : List ℕ → Option Doc) (names : Dictionary) (s : List ℕ) (r : Reading) {d : Doc} → meaning_by inner names r s ≡ Some d
     → Kinds d (object_head r) (array_head r)
 unfolding meaning_by is_object is_array object_head array_head is_there
 by_reading inner names s (Fixed code size) e = primitive_kind code (drop 1 s) e
@@ -60,33 +61,33 @@ by_reading inner names s (Short size) e = rw (string_is (drop 1 s) e) (refl, ref
 by_reading inner names s (ObjectHead c i w) {d} e =
     let members = then_some (members_of names c i w s) _ e in
     let docs = then_some (member_docs inner (area_of c i w s) (names_at names (ids_of c i s)) members.0) _ members.2 in
-    rw (← some-injective (object docs.0) d docs.2) (refl, refl)
+    rw (← same_Some (object docs.0) d docs.2) (refl, refl)
 by_reading inner names s (ArrayHead c w) {d} e =
     let elements = then_some (elements_of c w s) _ e in
     let docs = then_some (element_docs inner (area_of c 0 w s) elements.0) _ elements.2 in
-    rw (← some-injective (array docs.0) d docs.2) (refl, refl)
-by_reading inner names s Nothing e = never (sym (some_there none e))
+    rw (← same_Some (array docs.0) d docs.2) (refl, refl)
+by_reading inner names s Nothing e = never (sym (some_there None e))
 
 -- ---- by the low two bits
 
 module _ (inner : List ℕ → Option Doc) (names : Dictionary) (s : List ℕ) {d : Doc} where
-  nothing_meant : {A : Type 0} → meaning_by inner names Nothing s ≡ some d → A
+  nothing_meant : {A : Type 0} → meaning_by inner names Nothing s ≡ Some d → A
   unfolding meaning_by is_there
-  nothing_meant e = never (sym (some_there none e))
+  nothing_meant e = never (sym (some_there None e))
 
-  by_kind : (kind rest : ℕ) → kind < 4 → meaning_by inner names (kind_reading kind rest) s ≡ some d → Kinds d (eqb kind 2) (eqb kind 3)
+  by_kind : (kind rest : ℕ) → kind < 4 → meaning_by inner names (kind_reading kind rest) s ≡ Some d → Kinds d (eqb kind 2) (eqb kind 3)
   unfolding kind_reading primitive_reading object_head array_head
   by_kind zero rest h = go (leb rest 20) (eqb (get_or payload_sizes rest 0) length_prefixed)
     where
       go : (known marked : Bool)
-          → meaning_by inner names (cond known (cond marked (Prefixed rest) (Fixed rest (get_or payload_sizes rest 0))) Nothing) s ≡ some d → Kinds d false false
+          → meaning_by inner names (cond known (cond marked (Prefixed rest) (Fixed rest (get_or payload_sizes rest 0))) Nothing) s ≡ Some d → Kinds d false false
       go true true e = by_reading inner names s (Prefixed rest) e
       go true false e = by_reading inner names s (Fixed rest (get_or payload_sizes rest 0)) e
       go false marked e = nothing_meant e
   by_kind (suc zero) rest h = by_reading inner names s (Short rest)
   by_kind (suc (suc zero)) rest h = go (eqb (rest / 32) 0)
     where
-      go : (used : Bool) → meaning_by inner names (cond used (ObjectHead (count_size (rest / 16 % 2)) (rest / 4 % 4 + 1) (rest % 4 + 1)) Nothing) s ≡ some d → Kinds d true false
+      go : (used : Bool) → meaning_by inner names (cond used (ObjectHead (count_size (rest / 16 % 2)) (rest / 4 % 4 + 1) (rest % 4 + 1)) Nothing) s ≡ Some d → Kinds d true false
       go true e = by_reading inner names s (ObjectHead (count_size (rest / 16 % 2)) (rest / 4 % 4 + 1) (rest % 4 + 1)) e
       go false e = nothing_meant e
   by_kind (suc (suc (suc more))) rest h = go (eqb (rest / 8) 0)
@@ -94,7 +95,7 @@ module _ (inner : List ℕ → Option Doc) (names : Dictionary) (s : List ℕ) {
       three : ◌≡◌ {A = ℕ} (suc (suc (suc more))) 3
       three = omega arith
 
-      go : (used : Bool) → meaning_by inner names (cond used (ArrayHead (count_size (rest / 4 % 2)) (rest % 4 + 1)) Nothing) s ≡ some d
+      go : (used : Bool) → meaning_by inner names (cond used (ArrayHead (count_size (rest / 4 % 2)) (rest % 4 + 1)) Nothing) s ≡ Some d
           → Kinds d (eqb (suc (suc (suc more))) 2) (eqb (suc (suc (suc more))) 3)
       go true e = rw three (by_reading inner names s (ArrayHead (count_size (rest / 4 % 2)) (rest % 4 + 1)) e)
       go false e = nothing_meant e
@@ -117,7 +118,7 @@ nameless (scalar v) named e = refl
 nameless (array ds) named e = refl
 nameless (object fs) named e = never e
 
-module _ (levels : ℕ) (names : Dictionary) (s : List ℕ) {d : Doc} (means : meaning_of levels names s ≡ some d) where
+module _ (levels : ℕ) (names : Dictionary) (s : List ℕ) {d : Doc} (means : meaning_of levels names s ≡ Some d) where
   pub left_kind : (is_object d ≡ eqb (at s 0 % 4) 2) × (is_array d ≡ eqb (at s 0 % 4) 3)
   unfolding reading_of
   left_kind =

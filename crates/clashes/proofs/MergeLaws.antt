@@ -2,28 +2,26 @@
 use mathlib.Core.Bool.{Bool, true, false}
 use mathlib.Core.List.{List, [], ◌∷◌}
 use mathlib.Core.Path.{◌≡◌, refl, sym, ap, ◌∙◌}
-use Prim.Native.Nat.{ℕ, ◌+◌, ◌-◌, ◌*◌, ◌≤◌, ◌<◌}
+use Prim.Native.Nat.{ℕ, ◌+◌, ◌-◌, ◌≤◌, ◌<◌}
 use native.Mathlib.Omega.{arith}
 use lib.ListN.{length, get_or, drop}
-use Rattle.numbers.specs.Little.{number_at}
 use Rattle.order.specs.Before.{order_of}
-use Rattle.order.specs.declared.Order.TheVariants.{Less, Equal, Greater}
-use Rattle.order.specs.declared.Order.{Order}
+use Rattle.std.specs.declared.cmp.Ordering.TheVariants.{Less, Equal, Greater}
+use Rattle.std.specs.declared.cmp.Ordering.{Ordering}
 use Rattle.paper.specs.Metadata.{Dictionary, rising}
 use Rattle.paper.specs.Schemas.{SchemaFields, column_names}
 use Rattle.paper.specs.Values.{names_at}
-use Rattle.paper.specs.Words.{numbers, all_below}
+use Rattle.paper.specs.Words.{all_below}
 use Rattle.schemas.specs.Frames.{frame_end}
 use Rattle.schemas.specs.Positions.{field_node, field_name, FieldsStand}
 use Rattle.clashes.specs.Shared.{shared, SomeFields}
 use Rattle.clashes.proofs.SharedLaws.{shared_none, shared_less, shared_greater, shared_equal}
-use Rattle.containers.proofs.RunLaws.{Standing, standing_start, standing_next, run_next, run_here, run_ended}
-use Rattle.dictionary.proofs.NumbersRunLaws.{run_length, below_at}
+use Rattle.runs.proofs.NumbersRunLaws.{below_at, next_number, no_more}
 use Rattle.names.proofs.RisingLaws.{rising_more}
 use Rattle.schemas.proofs.FieldsStandLaws.{FirstField, first_field, no_field}
 
 -- Two names that were looked up, compared.
-pub compared : (x y a b : List ℕ) → a ≡ x → b ≡ y → (r : Order) → r ≡ order_of a b → r ≡ order_of x y
+pub compared : (x y a b : List ℕ) → a ≡ x → b ≡ y → (r : Ordering) → r ≡ order_of a b → r ≡ order_of x y
 compared x y a b first second r told = told ∙ rw (first, second)
 
 -- What is left of some fields stands from a place on, and decides with what is left of some names.
@@ -33,41 +31,38 @@ pub record FieldsLeft (all left : List (List ℕ)) (schema : List ℕ) (field to
   pub whole_is : shared all (column_names columns) ≡ shared left (column_names more)
 
 -- The walk has passed i ids, and the fields before a place.
-pub record MergeSeen (names : Dictionary) (ids : List ℕ) (width count : ℕ) (schema : List ℕ) (from to field place i : ℕ) : Type 0 where
-  pub standing : Standing width count place i
-  pub rise : rising (names_at names (drop i (numbers width count ids))) ≡ true
+pub record MergeSeen (names : Dictionary) (ids schema : List ℕ) (from to field i : ℕ) : Type 0 where
+  pub rise : rising (names_at names (drop i ids)) ≡ true
   pub further : (levels : ℕ) (columns : SchemaFields) → FieldsStand levels schema from to columns
-      → FieldsLeft (names_at names (numbers width count ids)) (names_at names (drop i (numbers width count ids))) schema field to levels columns
+      → FieldsLeft (names_at names ids) (names_at names (drop i ids)) schema field to levels columns
 
-pub merge_start : (names : Dictionary) (ids : List ℕ) (width count : ℕ) (schema : List ℕ) (from to : ℕ)
-    → rising (names_at names (numbers width count ids)) ≡ true → MergeSeen names ids width count schema from to from 0 0
-merge_start names ids width count schema from to rise =
+pub merge_start : (names : Dictionary) (ids schema : List ℕ) (from to : ℕ) → rising (names_at names ids) ≡ true
+    → MergeSeen names ids schema from to from 0
+merge_start names ids schema from to rise =
     record {
-      standing = standing_start width count;
       rise = rise;
       further = λ levels columns stand. record { more = columns; stand = stand; whole_is = refl };
     }
 
 -- What is answered, of whatever fields stand there.
-abbrev pub Said : Dictionary → List ℕ → (width count : ℕ) → List ℕ → (from to : ℕ) → Bool → Type 0
-Said names ids width count schema from to r =
+abbrev pub Said : Dictionary → List ℕ → List ℕ → (from to : ℕ) → Bool → Type 0
+Said names ids schema from to r =
     (levels : ℕ) (columns : SchemaFields) → FieldsStand levels schema from to columns
-    → r ≡ shared (names_at names (numbers width count ids)) (column_names columns)
+    → r ≡ shared (names_at names ids) (column_names columns)
 
-module _ {names : Dictionary} {ids : List ℕ} {width count : ℕ} {schema : List ℕ} {from to field place i : ℕ}
-    (seen : MergeSeen names ids width count schema from to field place i) (least : 1 ≤ width) (there : count * width ≤ length ids) where
+module _ {names : Dictionary} {ids schema : List ℕ} {from to field i : ℕ} (seen : MergeSeen names ids schema from to field i) where
   -- one of the two has ended
-  pub ids_ended : count ≤ i → Said names ids width count schema from to false
+  pub ids_ended : length ids ≤ i → Said names ids schema from to false
   unfolding names_at shared
   ids_ended past levels columns stand =
       let left = seen.further levels columns stand in
-      sym (left.whole_is ∙ ap (λ (l : List ℕ). shared (names_at names l) (column_names left.more)) (run_ended seen.standing ids least there past))
+      sym (left.whole_is ∙ ap (λ (l : List ℕ). shared (names_at names l) (column_names left.more)) (no_more ids i past))
 
-  pub fields_ended : to ≤ field → Said names ids width count schema from to false
+  pub fields_ended : to ≤ field → Said names ids schema from to false
   unfolding column_names
   fields_ended past levels columns stand =
       let left = seen.further levels columns stand in
-      let names-left = names_at names (drop i (numbers width count ids)) in
+      let names-left = names_at names (drop i ids) in
       sym (left.whole_is ∙ ap (λ (more : SchemaFields). shared names-left (column_names more)) (no_field left.stand past) ∙ shared_none names-left)
 
   -- the field here
@@ -86,30 +81,26 @@ module _ {names : Dictionary} {ids : List ℕ} {width count : ℕ} {schema : Lis
     frame_falls fields next is = omega arith
 
     -- the id here
-    module _ (h : i < count) (id : ℕ) (is : id ≡ number_at ids place width) where
-      pub id_below : (total : ℕ) → length names ≡ total → all_below (length names) (numbers width count ids) ≡ true → id < total
-      id_below total size below =
-          let long : length (numbers width count ids) ≡ count = run_length width count ids least there in
-          let here : get_or (numbers width count ids) i 0 ≡ id = run_here seen.standing ids least there h id is in
-          let low : get_or (numbers width count ids) i 0 < length names = below_at (length names) (numbers width count ids) i below (omega arith) in
-          omega arith
+    module _ (h : i < length ids) (id : ℕ) (is : id ≡ get_or ids i 0) where
+      pub id_below : all_below (length names) ids ≡ true → id < length names
+      id_below below = rw is (below_at (length names) ids i below h)
 
       abbrev name : List ℕ
       name = get_or names id []
 
       abbrev others : List (List ℕ)
-      others = names_at names (drop (i + 1) (numbers width count ids))
+      others = names_at names (drop (i + 1) ids)
 
-      names_next : names_at names (drop i (numbers width count ids)) ≡ name ∷ others
+      names_next : names_at names (drop i ids) ≡ name ∷ others
       unfolding names_at
-      names_next = rw (run_next seen.standing ids least there h id is)
+      names_next = rw (next_number ids i h id is)
 
       names_rise : rising (name ∷ others) ≡ true
       names_rise = sym (ap rising names_next) ∙ seen.rise
 
       -- whatever fields stand there, how the two names compare says what is left
-      module _ (r : Order) (told : r ≡ order_of (get_or names id []) (field_name schema field)) where
-        answered : {o : Order} → r ≡ o → order_of name (field_name schema field) ≡ o
+      module _ (r : Ordering) (told : r ≡ order_of (get_or names id []) (field_name schema field)) where
+        answered : {o : Ordering} → r ≡ o → order_of name (field_name schema field) ≡ o
         answered e = sym told ∙ e
 
         module _ {levels : ℕ} {columns : SchemaFields} (stand : FieldsStand levels schema from to columns) where
@@ -126,14 +117,13 @@ module _ {names : Dictionary} {ids : List ℕ} {width count : ℕ} {schema : Lis
           fields_rise : rising (field_name schema field ∷ behind) ≡ true
           fields_rise = sym (ap rising fields_next) ∙ (seen.further levels columns stand).stand.rise
 
-          whole_here : shared (names_at names (numbers width count ids)) (column_names columns) ≡ shared (name ∷ others) (field_name schema field ∷ behind)
+          whole_here : shared (names_at names ids) (column_names columns) ≡ shared (name ∷ others) (field_name schema field ∷ behind)
           whole_here = (seen.further levels columns stand).whole_is ∙ rw (names_next, fields_next)
 
         -- the id's name comes first: no field has it
-        pub merge_less : r ≡ Less → MergeSeen names ids width count schema from to field (place + width) (i + 1)
+        pub merge_less : r ≡ Less → MergeSeen names ids schema from to field (i + 1)
         merge_less e =
             record {
-              standing = standing_next seen.standing ids least there h;
               rise = rising_more name others names_rise;
               further = λ levels columns stand.
                   record {
@@ -146,11 +136,10 @@ module _ {names : Dictionary} {ids : List ℕ} {width count : ℕ} {schema : Lis
             }
 
         -- the field's name comes first: no id has it
-        pub merge_greater : r ≡ Greater → (next : ℕ) → next ≡ frame_end schema field → MergeSeen names ids width count schema from to next place i
+        pub merge_greater : r ≡ Greater → (next : ℕ) → next ≡ frame_end schema field → MergeSeen names ids schema from to next i
         merge_greater e next ends =
             rw ends
             (record {
-              standing = seen.standing;
               rise = seen.rise;
               further = λ levels columns stand.
                   record {
@@ -162,6 +151,6 @@ module _ {names : Dictionary} {ids : List ℕ} {width count : ℕ} {schema : Lis
                   };
             })
 
-        pub merge_equal : r ≡ Equal → Said names ids width count schema from to true
+        pub merge_equal : r ≡ Equal → Said names ids schema from to true
         merge_equal e levels columns stand =
             sym (whole_here stand ∙ shared_equal name (field_name schema field) others (behind stand) (answered e))

@@ -1,24 +1,26 @@
 -- Names that two lists share: an object's names are those of its fields, and along two rising lists the lower of the first
 -- names is no shared one.
+use Rattle.std.specs.Prelude.{Option, None, Some}
 use mathlib.Core.Bool.{Bool, true, false, cond, ◌||◌}
 use mathlib.Core.List.{List, [], ◌∷◌}
 use mathlib.Core.Logic.{◌⊎◌, inl, inr}
-use mathlib.Core.Option.{Option, none, some, some-injective}
 use mathlib.Core.Path.{◌≡◌, refl, sym, ap, ◌∙◌}
 use Prim.Native.Nat.{ℕ}
 use Rattle.order.specs.Before.{before, order_of}
-use Rattle.order.specs.declared.Order.TheVariants.{Less, Equal, Greater}
+use Rattle.std.specs.declared.cmp.Ordering.TheVariants.{Less, Equal, Greater}
 use Rattle.paper.specs.Meaning.{Doc, Fields, no_fields, field}
 use Rattle.paper.specs.Metadata.{rising}
 use Rattle.paper.specs.Normal.{field_names}
 use Rattle.paper.specs.Rules.{any_named}
-use Rattle.paper.specs.Values.{Child, child_bytes, member_docs}
+use Rattle.paper.specs.Values.{child_bytes, member_docs}
+use Rattle.paper.specs.declared.Child.{Child}
 use Rattle.paper.specs.Words.{same, among, is_there}
 use Rattle.clashes.specs.Shared.{shared}
 use Rattle.names.proofs.RisingLaws.{rising_first}
 use Rattle.names.proofs.SameLaws.{same_refl, same_is, among_first, among_either}
 use Rattle.order.proofs.OrderLaws.{before_irreflexive, before_asymmetric, equal_same}
 use Rattle.paper.proofs.WordLaws.{never, then_some, some_there}
+use Rattle.std.proofs.lemmas.Option.{same_Some}
 
 -- ---- the names of an object's fields
 
@@ -28,14 +30,14 @@ any_shared names no_fields = refl
 any_shared names (field name d fs) = rw (any_shared names fs)
 
 pub names_given : (inner : List ℕ → Option Doc) (area : List ℕ) (names : List (List ℕ)) (children : List Child) {fs : Fields}
-    → member_docs inner area names children ≡ some fs → field_names fs ≡ names
+    → member_docs inner area names children ≡ Some fs → field_names fs ≡ names
 unfolding member_docs field_names is_there
-names_given inner area [] children {fs} e = ap field_names (sym (some-injective no_fields fs e))
-names_given inner area (name ∷ names) [] e = never (sym (some_there none e))
+names_given inner area [] children {fs} e = ap field_names (sym (same_Some no_fields fs e))
+names_given inner area (name ∷ names) [] e = never (sym (some_there None e))
 names_given inner area (name ∷ names) (child ∷ more) {fs} e =
     let one = then_some (inner (child_bytes area child)) _ e in
     let others = then_some (member_docs inner area names more) _ one.2 in
-    ap field_names (sym (some-injective (field name one.0 others.0) fs others.2))
+    ap field_names (sym (same_Some (field name one.0 others.0) fs others.2))
     ∙ ap (λ (l : List (List ℕ)). name ∷ l) (names_given inner area names more others.1)
 
 -- ---- along two lists

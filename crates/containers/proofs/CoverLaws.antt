@@ -7,7 +7,8 @@ use Prim.Native.Nat.{ℕ, zero, suc, ◌+◌, ◌≤◌, ◌<◌, min}
 use native.Mathlib.Omega.{arith}
 use borrow.Author.Tests.{ltb-true, ltb-false, leb-true, leb-false, eqb-true, eqb-false, eq-eqb}
 use lib.Dec.{leb, ltb, eqb}
-use Rattle.paper.specs.Values.{Child, holders, every_byte_once}
+use Rattle.paper.specs.Values.{holders, every_byte_once}
+use Rattle.paper.specs.declared.Child.{Child}
 use Rattle.paper.specs.Words.{one_if}
 use Rattle.containers.specs.Children.{sizes}
 use Rattle.paper.proofs.WordLaws.{and_both}

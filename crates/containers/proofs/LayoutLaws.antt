@@ -1,6 +1,6 @@
 -- Where a container has what: its head is there, so its numbers are, and the parts that are lent are those of 01.
 use mathlib.Core.List.{List}
-use mathlib.Core.Path.{◌≡◌, refl, sym, ◌∙◌}
+use mathlib.Core.Path.{◌≡◌, refl, sym, ap, subst, ◌∙◌}
 use Prim.Native.Nat.{ℕ, ◌+◌, ◌*◌, ◌^◌, ◌≤◌, ◌<◌}
 use native.Mathlib.Nat.{suc-mul, mul-le-mul, mul-one, le_refl}
 use native.Mathlib.Numerals.{add-one}
@@ -12,17 +12,16 @@ use Rattle.numbers.specs.Little.{number_at}
 use Rattle.paper.specs.Bounds.{most_walked}
 use Rattle.paper.specs.Values.{head_size_of, area_of, starts_of, ids_of}
 use Rattle.paper.specs.Words.{numbers}
-use Rattle.containers.specs.Layouts.{Container, LaidOut}
-use Rattle.containers.specs.declared.shape.Layout.{Layout}
-use Rattle.dictionary.proofs.NumbersRunLaws.{rest, rest_is, run_length}
+use Rattle.containers.specs.Layouts.{HeadThere}
+use Rattle.runs.proofs.NumbersRunLaws.{rest, rest_is, run_length}
 use Rattle.heads.proofs.HeadLaws.{Spans, container_some}
 
-module _ (s : List ℕ) (c i w : ℕ) (container : Container s c i w) where
+module _ (s : List ℕ) (c i w : ℕ) (there : HeadThere s c i w) where
   spans : Spans s c i w (length s)
-  spans = container_some s c i w container.fills
+  spans = container_some s c i w there.fills
 
   pub count_there : (1 + c ≤ length s) × (1 ≤ c) × (c ≤ 4)
-  count_there = (spans.count_there, container.count_least, container.count_most)
+  count_there = (spans.count_there, there.count_least, there.count_most)
 
   -- What the count says is there: ids and offsets together.
   module _ (n : ℕ) (is : n ≡ number_at s 1 c) where
@@ -34,82 +33,70 @@ module _ (s : List ℕ) (c i w : ℕ) (container : Container s c i w) where
     more = rw (add-one n, suc-mul)
 
     few : n ≤ n * w
-    few = let e : n * 1 ≤ n * w = mul-le-mul (le_refl n) container.least in rw mul-one at e
+    few = let e : n * 1 ≤ n * w = mul-le-mul (le_refl n) there.least in rw mul-one at e
 
     pub count_few : n ≤ most_walked
-    count_few = let small = container.small in omega (arith, head_parts, more, few)
+    count_few = let small = there.small in omega (arith, head_parts, more, few)
 
     pub ids_fit : Fits w64 (n * i)
-    ids_fit = let small = container.small in record { fits = omega (arith, head_parts) }
+    ids_fit = let small = there.small in record { fits = omega (arith, head_parts) }
 
     pub starts_fit : Fits w64 (1 + c + n * i)
-    starts_fit = let small = container.small in record { fits = omega (arith, head_parts) }
+    starts_fit = let small = there.small in record { fits = omega (arith, head_parts) }
 
     pub head_asks : (n < 2 ^ 32) × (c ≤ 4) × (i ≤ 4) × (w ≤ 4)
-    head_asks = (omega (arith, count_few), container.count_most, container.id_most, container.most)
-
-    pub laid_out : (head : ℕ) → (head ≡ head_size_of n c i w) × (head ≤ 2 ^ 36)
-        → LaidOut s c i w (record { count = n; starts = 1 + c + n * i; width = w; area = head })
-    laid_out head h =
-        record {
-          count_is = is;
-          starts_is = refl;
-          width_is = refl;
-          area_is = h.0;
-          area_there = rw (h.0, is) spans.head_there;
-        }
-
-  module _ (l : Layout) (laid : LaidOut s c i w l) where
-    n : ℕ
-    n = l.count
-
-    pub layout_few : l.count ≤ most_walked
-    layout_few = count_few l.count laid.count_is
-
-    pub starts_in : l.starts ≤ length s
-    starts_in = omega (arith, head_parts l.count laid.count_is, laid.starts_is)
+    head_asks = (omega (arith, count_few), there.count_most, there.id_most, there.most)
 
     pub ids_in : 1 + c ≤ length s
     ids_in = count_there.0
 
+    pub starts_in : 1 + c + n * i ≤ length s
+    starts_in = omega (arith, head_parts)
+
     -- the run of starts, and the run of ids, are there
-    pub starts_there : l.count * l.width ≤ length (rest s l.starts)
-    starts_there =
-        let all = head_parts l.count laid.count_is in
-        let one = more l.count laid.count_is in
-        let at = laid.starts_is in
-        rw (rest_is s l.starts, laid.width_is, length-drop) (omega arith)
+    pub starts_there : n * w ≤ length (rest s (1 + c + n * i))
+    starts_there = rw (rest_is s (1 + c + n * i), length-drop) (omega (arith, head_parts, more))
 
-    pub ids_there : l.count * i ≤ length (rest s (1 + c))
-    ids_there =
-        let all = head_parts l.count laid.count_is in
-        rw (rest_is s (1 + c), length-drop) (omega arith)
-
-    pub width_there : (1 ≤ l.width) × (l.width ≤ 4)
-    width_there = let e = laid.width_is in let a = container.least in let b = container.most in (omega arith, omega arith)
+    pub ids_there : n * i ≤ length (rest s (1 + c))
+    ids_there = rw (rest_is s (1 + c), length-drop) (omega (arith, head_parts))
 
     -- they are those of 01
-    pub area_same : rest s l.area ≡ area_of c i w s
-    unfolding area_of
-    area_same = rest_is s l.area ∙ rw (laid.area_is, laid.count_is)
+    module _ (head : ℕ) (h : head ≡ head_size_of n c i w) where
+      pub area_in : head ≤ length s
+      area_in = rw (h, is) spans.head_there
 
-    pub starts_same : numbers l.width l.count (rest s l.starts) ≡ starts_of c i w s
+      pub area_same : rest s head ≡ area_of c i w s
+      unfolding area_of
+      area_same = rest_is s head ∙ rw (h, is)
+
+    pub starts_same : numbers w n (rest s (1 + c + n * i)) ≡ starts_of c i w s
     unfolding starts_of
-    starts_same = rw (rest_is s l.starts, laid.starts_is, laid.width_is, laid.count_is)
+    starts_same = rw (rest_is s (1 + c + n * i), is)
 
-    pub ids_same : numbers i l.count (rest s (1 + c)) ≡ ids_of c i s
+    pub ids_same : numbers i n (rest s (1 + c)) ≡ ids_of c i s
     unfolding ids_of
-    ids_same = rw (rest_is s (1 + c), laid.count_is)
+    ids_same = rw (rest_is s (1 + c), is)
 
-    pub area_small : length (rest s l.area) ≤ most_walked
-    area_small = let small = container.small in rw (rest_is s l.area, length-drop) (omega arith)
+    pub starts_few : length (starts_of c i w s) ≤ most_walked
+    starts_few =
+        let all = run_length w n (rest s (1 + c + n * i)) there.least starts_there in
+        let same : length (starts_of c i w s) ≡ n = sym (ap length starts_same) ∙ all in
+        omega (arith, count_few)
 
-    pub starts_few : length (rest s l.starts) ≤ most_walked
-    starts_few = let small = container.small in rw (rest_is s l.starts, length-drop) (omega arith)
+  pub area_small : length (area_of c i w s) ≤ most_walked
+  unfolding area_of
+  area_small = let small = there.small in rw length-drop (omega arith)
 
-    -- what the callees ask
-    pub lengths_asks : (l.count * l.width ≤ length (rest s l.starts)) × (1 ≤ l.width) × (l.width ≤ 4) × (l.count ≤ most_walked) × (length (rest s l.area) ≤ most_walked)
-    lengths_asks = (starts_there, width_there.0, width_there.1, layout_few, area_small)
+  -- An array's starts stand right behind its count.
+  module _ (array : i ≡ 0) (n : ℕ) (is : n ≡ number_at s 1 c) where
+    no_ids : 1 + c + n * i ≡ 1 + c
+    no_ids = rw array (omega arith)
+
+    pub array_starts_there : n * w ≤ length (rest s (1 + c))
+    array_starts_there = subst (λ (k : ℕ). n * w ≤ length (rest s k)) no_ids (starts_there n is)
+
+    pub array_starts_same : numbers w n (rest s (1 + c)) ≡ starts_of c i w s
+    array_starts_same = ap (λ (k : ℕ). numbers w n (rest s k)) (sym no_ids) ∙ starts_same n is
 
   -- There are as many ids as starts.
   pub ids_starts_length : 1 ≤ i → length (ids_of c i s) ≡ length (starts_of c i w s)
@@ -119,4 +106,4 @@ module _ (s : List ℕ) (c i w : ℕ) (container : Container s c i w) where
       let all = head_parts n refl in
       let one = more n refl in
       run_length i n (drop (1 + c) s) least (rw length-drop (omega arith))
-      ∙ sym (run_length w n (drop (1 + c + n * i) s) container.least (rw length-drop (omega arith)))
+      ∙ sym (run_length w n (drop (1 + c + n * i) s) there.least (rw length-drop (omega arith)))

@@ -1,5 +1,4 @@
 -- Laws of how a container's children lie, for the shape's own functions and for the crates above.
-pub mod RunLaws
 pub mod CoverLaws
 pub mod ChildLaws
 pub mod LengthLaws

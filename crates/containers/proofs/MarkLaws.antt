@@ -7,15 +7,13 @@ use native.Mathlib.Omega.{arith}
 use borrow.Author.Tests.{ltb-true}
 use lib.Dec.{leb, ltb, eqb}
 use lib.ListN.{length, get_or, drop, replicate, length-replicate}
-use Rattle.numbers.specs.Little.{number_at}
-use Rattle.paper.specs.Values.{Child}
-use Rattle.paper.specs.Words.{one_if, numbers, all_below}
+use Rattle.paper.specs.declared.Child.{Child}
+use Rattle.paper.specs.Words.{one_if, all_below}
 use Rattle.containers.specs.Marks.{bit_of, set_bit, mark_all}
-use Rattle.dictionary.proofs.NumbersRunLaws.{run_length, below_at}
+use Rattle.runs.proofs.NumbersRunLaws.{below_at, next_number, no_more}
 use Rattle.paper.proofs.WordLaws.{and_both}
 use Rattle.containers.proofs.BitLaws.{set_bit_lem, other_bit, length-set_bit, clean_bit}
 use Rattle.containers.proofs.CoverLaws.{Test, passed, failed, equal, at_most, starting}
-use Rattle.containers.proofs.RunLaws.{Standing, standing_start, standing_next, run_next, run_here, run_ended}
 
 -- ---- what a map says
 
@@ -107,35 +105,29 @@ map_says size starts i on h = go (at_most 1 (times i starts))
 -- ---- the loop that marks
 
 -- After i starts: what is left is to be marked on what is marked.
-pub record MarksSeen (starts marks₀ marks : List ℕ) (width count place i : ℕ) : Type 0 where
-  pub standing : Standing width count place i
+pub record MarksSeen (starts marks₀ marks : List ℕ) (i : ℕ) : Type 0 where
   pub same_size : length marks ≡ length marks₀
-  pub whole : mark_all marks₀ (numbers width count starts) ≡ mark_all marks (drop i (numbers width count starts))
+  pub whole : mark_all marks₀ starts ≡ mark_all marks (drop i starts)
 
-pub marks_start : (starts marks : List ℕ) (width count : ℕ) → MarksSeen starts marks marks width count 0 0
-marks_start starts marks width count = record { standing = standing_start width count; same_size = refl; whole = refl }
+pub marks_start : (starts marks : List ℕ) → MarksSeen starts marks marks 0
+marks_start starts marks = record { same_size = refl; whole = refl }
 
-module _ {starts marks₀ marks : List ℕ} {width count place i : ℕ} (seen : MarksSeen starts marks₀ marks width count place i)
-    (least : 1 ≤ width) (there : count * width ≤ length starts) where
-  module _ (h : i < count) (start : ℕ) (is : start ≡ number_at starts place width) where
-    pub mark_inside : all_below (8 * length marks₀) (numbers width count starts) ≡ true → start / 8 < length marks
+module _ {starts marks₀ marks : List ℕ} {i : ℕ} (seen : MarksSeen starts marks₀ marks i) where
+  module _ (h : i < length starts) (start : ℕ) (is : start ≡ get_or starts i 0) where
+    pub mark_inside : all_below (8 * length marks₀) starts ≡ true → start / 8 < length marks
     mark_inside below =
-        let size : length (numbers width count starts) ≡ count = run_length width count starts least there in
-        let here : get_or (numbers width count starts) i 0 ≡ start = run_here seen.standing starts least there h start is in
-        let bound : get_or (numbers width count starts) i 0 < 8 * length marks₀ = below_at (8 * length marks₀) (numbers width count starts) i below (omega arith) in
+        let bound : get_or starts i 0 < 8 * length marks₀ = below_at (8 * length marks₀) starts i below h in
         let same : length marks ≡ length marks₀ = seen.same_size in
         omega arith
 
-    pub marks_next : {after : List ℕ} → after ≡ set_bit marks start → MarksSeen starts marks₀ after width count (place + width) (i + 1)
+    pub marks_next : {after : List ℕ} → after ≡ set_bit marks start → MarksSeen starts marks₀ after (i + 1)
     unfolding mark_all
     marks_next e =
         record {
-          standing = standing_next seen.standing starts least there h;
           same_size = ap length e ∙ length-set_bit marks start ∙ seen.same_size;
-          whole = seen.whole ∙ ap (mark_all marks) (run_next seen.standing starts least there h start is)
-              ∙ ap (λ (l : List ℕ). mark_all l (drop (i + 1) (numbers width count starts))) (sym e);
+          whole = seen.whole ∙ ap (mark_all marks) (next_number starts i h start is) ∙ ap (λ (l : List ℕ). mark_all l (drop (i + 1) starts)) (sym e);
         }
 
-  pub marks_done : count ≤ i → marks ≡ mark_all marks₀ (numbers width count starts)
+  pub marks_done : length starts ≤ i → marks ≡ mark_all marks₀ starts
   unfolding mark_all
-  marks_done past = sym (seen.whole ∙ ap (mark_all marks) (run_ended seen.standing starts least there past))
+  marks_done past = sym (seen.whole ∙ ap (mark_all marks) (no_more starts i past))

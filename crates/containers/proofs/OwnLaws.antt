@@ -1,7 +1,7 @@
 -- A child's own bytes: a child that has a length lies in the area and fills its bytes.
+use Rattle.std.specs.Prelude.{Some, Option}
 use mathlib.Core.Bool.{true}
 use mathlib.Core.List.{List}
-use mathlib.Core.Option.{some}
 use mathlib.Core.Path.{◌≡◌, sym, ap, ◌∙◌}
 use Prim.Native.Nat.{ℕ, ◌+◌, ◌-◌, ◌≤◌, ◌<◌}
 use native.Mathlib.Nat.{add-zero}
@@ -11,20 +11,16 @@ use lib.ListN.{length, take, drop, length-take, length-drop}
 use lib.Seq.{get_or-take, get_or-drop}
 use mir.Syntax.{w64}
 use mir.Val.{Fits}
-use Rattle.heads.specs.Extents.{extent_answer}
-use Rattle.heads.specs.declared.Extent.TheVariants.{Size}
-use Rattle.heads.specs.declared.Extent.{Extent}
 use Rattle.paper.specs.Bounds.{most_walked}
 use Rattle.paper.specs.Values.{extent, child_extent, child_bytes, whole, ends_at}
 use Rattle.paper.specs.Words.{at, is_there}
 use Rattle.heads.proofs.HeadLaws.{extent_positive, extent_take}
 use Rattle.paper.proofs.WordLaws.{there_some}
 use Rattle.containers.proofs.ChildLaws.{extent_fits}
-use Rattle.containers.proofs.LengthLaws.{size_some}
 
 -- ---- a child's own bytes
 
-module _ (area : List ℕ) (start size : ℕ) (long : child_extent area start ≡ some size) where
+module _ (area : List ℕ) (start size : ℕ) (long : child_extent area start ≡ Some size) where
   abbrev pub own : List ℕ
   own = take (start + size - start) (drop start area)
 
@@ -40,7 +36,7 @@ module _ (area : List ℕ) (start size : ℕ) (long : child_extent area start �
   unfolding whole ends_at
   own_whole =
       let e : start + size - start ≡ size = omega arith in
-      let has : extent (take (start + size - start) (drop start area)) ≡ some size =
+      let has : extent (take (start + size - start) (drop start area)) ≡ Some size =
       extent_take (drop start area) (start + size - start) (extent_fits area start size long).0 (omega arith) in
       rw has (eq-eqb size (length (take (start + size - start) (drop start area))) (sym own_size))
 
@@ -52,9 +48,9 @@ module _ (area : List ℕ) (start size : ℕ) (long : child_extent area start �
 
 -- ---- a child whose length is told
 
-module _ (area : List ℕ) (start : ℕ) (r : Extent) (told : r ≡ extent_answer (child_extent area start)) (size : ℕ) (e : r ≡ Size size) where
-  pub known : child_extent area start ≡ some size
-  known = size_some (child_extent area start) size (sym told ∙ e)
+module _ (area : List ℕ) (start : ℕ) (r : Option ℕ) (told : r ≡ child_extent area start) (size : ℕ) (e : r ≡ Some size) where
+  pub known : child_extent area start ≡ Some size
+  known = sym told ∙ e
 
   pub child_end : length area ≤ most_walked → Fits w64 (start + size)
   child_end small = let fit = (extent_fits area start size known).1 in record { fits = omega arith }

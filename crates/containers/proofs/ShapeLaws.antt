@@ -1,28 +1,22 @@
 -- What the shape of a container comes to, by what the lengths of its children come to. Children end to end hold every
 -- byte once.
-use mathlib.Core.Bool.{Bool, true, false, cond, ◌&&◌}
+use Rattle.std.specs.Prelude.{Option, None, Some}
+use mathlib.Core.Bool.{Bool, true, false, cond}
 use mathlib.Core.List.{List, [], ◌∷◌}
-use mathlib.Core.Option.{Option, none, some}
 use mathlib.Core.Path.{◌≡◌, refl, sym, ◌∙◌}
-use Prim.Native.Nat.{ℕ, ◌+◌, ◌*◌, ◌≤◌, ◌<◌}
+use Prim.Native.Nat.{ℕ, ◌+◌, ◌≤◌, ◌<◌}
 use native.Mathlib.Omega.{arith}
 use borrow.Author.Tests.{eqb-true}
 use lib.Dec.{eqb}
 use lib.ListN.{length}
-use Rattle.paper.specs.Bounds.{most_walked}
-use Rattle.paper.specs.Metadata.{Dictionary, rising}
-use Rattle.paper.specs.Values.{Child, children_at, end_to_end, every_byte_once, holders, area_of, starts_of, ids_of, names_at}
-use Rattle.paper.specs.Words.{numbers, all_below}
+use Rattle.paper.specs.Values.{children_at, end_to_end, every_byte_once, holders}
+use Rattle.paper.specs.declared.Child.{Child}
 use Rattle.containers.specs.Children.{sizes, lengths_from, lengths_of, once_in, tiled_in}
-use Rattle.containers.specs.Layouts.{Container, LaidOut}
-use Rattle.containers.specs.declared.children.Lengths.TheVariants.{Broken, EndToEnd, Scattered}
-use Rattle.containers.specs.declared.children.Lengths.{Lengths}
-use Rattle.containers.specs.declared.shape.Layout.{Layout}
-use Rattle.dictionary.proofs.NumbersRunLaws.{rest}
+use Rattle.containers.specs.declared.children.Lying.TheVariants.{EndToEnd, Scattered}
+use Rattle.containers.specs.declared.children.Lying.{Lying}
 use Rattle.paper.proofs.WordLaws.{and_both}
 use Rattle.containers.proofs.ChildLaws.{SizedIn, children_sized}
 use Rattle.containers.proofs.CoverLaws.{inside, holding, Holds, held, before_it, behind_it, holders_cons, AllWithin, total_sizes, once_by_sum}
-use Rattle.containers.proofs.LayoutLaws.{area_same, starts_same, ids_same, ids_there, lengths_asks}
 use Rattle.containers.proofs.WalkLaws.{all_within}
 
 -- ---- children end to end
@@ -71,39 +65,39 @@ tiled_once end children fit e =
 -- ---- by the lengths
 
 module _ (end : ℕ) (K : Option (List Child)) where
-  by_lengths : (r : Lengths) → r ≡ lengths_of end K → r ≡ EndToEnd → tiled_in end K ≡ true
+  by_lengths : (r : Option Lying) → r ≡ lengths_of end K → r ≡ Some EndToEnd → tiled_in end K ≡ true
   unfolding lengths_of lengths_from tiled_in
   by_lengths r told e = go K (sym told ∙ e)
     where
-      go : (K : Option (List Child)) → lengths_from true 0 end 0 K ≡ EndToEnd → tiled_in end K ≡ true
-      go none f = absurd (let z : ◌≡◌ {A = ℕ} 0 1 = cc in omega arith)
-      go (some children) f = test (end_to_end 0 end children) f
+      go : (K : Option (List Child)) → lengths_from true 0 end 0 K ≡ Some EndToEnd → tiled_in end K ≡ true
+      go None f = absurd (let z : ◌≡◌ {A = ℕ} 0 1 = cc in omega arith)
+      go (Some children) f = test (end_to_end 0 end children) f
         where
-          test : (b : Bool) → cond b EndToEnd (Scattered (0 + sizes children)) ≡ EndToEnd → b ≡ true
+          test : (b : Bool) → cond b (Some EndToEnd) (Some (Scattered (0 + sizes children))) ≡ Some EndToEnd → b ≡ true
           test true g = refl
           test false g = absurd (let z : ◌≡◌ {A = ℕ} 0 1 = cc in omega arith)
 
-  not_tiled : (r : Lengths) → r ≡ lengths_of end K → (r ≡ EndToEnd → ⊥) → tiled_in end K ≡ false
+  not_tiled : (r : Option Lying) → r ≡ lengths_of end K → (r ≡ Some EndToEnd → ⊥) → tiled_in end K ≡ false
   unfolding lengths_of lengths_from tiled_in
   not_tiled r told other = go K (λ f. other (told ∙ f))
     where
-      go : (K : Option (List Child)) → (lengths_from true 0 end 0 K ≡ EndToEnd → ⊥) → tiled_in end K ≡ false
-      go none f = refl
-      go (some children) f = test (end_to_end 0 end children) f
+      go : (K : Option (List Child)) → (lengths_from true 0 end 0 K ≡ Some EndToEnd → ⊥) → tiled_in end K ≡ false
+      go None f = refl
+      go (Some children) f = test (end_to_end 0 end children) f
         where
-          test : (b : Bool) → (cond b EndToEnd (Scattered (0 + sizes children)) ≡ EndToEnd → ⊥) → b ≡ false
+          test : (b : Bool) → (cond b (Some EndToEnd) (Some (Scattered (0 + sizes children))) ≡ Some EndToEnd → ⊥) → b ≡ false
           test true g = absurd (g refl)
           test false g = refl
 
-  broken_none : (r : Lengths) → r ≡ lengths_of end K → r ≡ Broken → once_in end K ≡ false
+  broken_none : (r : Option Lying) → r ≡ lengths_of end K → r ≡ None → once_in end K ≡ false
   unfolding lengths_of lengths_from once_in
   broken_none r told e = go K (sym told ∙ e)
     where
-      go : (K : Option (List Child)) → lengths_from true 0 end 0 K ≡ Broken → once_in end K ≡ false
-      go none f = refl
-      go (some children) f = test (end_to_end 0 end children) f
+      go : (K : Option (List Child)) → lengths_from true 0 end 0 K ≡ None → once_in end K ≡ false
+      go None f = refl
+      go (Some children) f = test (end_to_end 0 end children) f
         where
-          test : (b : Bool) → cond b EndToEnd (Scattered (0 + sizes children)) ≡ Broken → every_byte_once end children ≡ false
+          test : (b : Bool) → cond b (Some EndToEnd) (Some (Scattered (0 + sizes children))) ≡ None → every_byte_once end children ≡ false
           test true g = absurd (let z : ◌≡◌ {A = ℕ} 0 1 = cc in omega arith)
           test false g = absurd (let z : ◌≡◌ {A = ℕ} 0 1 = cc in omega arith)
 
@@ -112,57 +106,26 @@ unfolding tiled_in once_in SizedIn
 tiled_is_once area starts = go (children_at area starts) (children_sized area starts)
   where
     go : (K : Option (List Child)) → SizedIn area starts K → tiled_in (length area) K ≡ true → once_in (length area) K ≡ true
-    go none sized e = e
-    go (some children) sized e = tiled_once (length area) children (all_within area children sized.0) e
+    go None sized e = e
+    go (Some children) sized e = tiled_once (length area) children (all_within area children sized.0) e
 
--- ---- the answers about a container
+-- ---- the answers about a container's children, by what their lengths come to
 
-module _ {s : List ℕ} {c i w : ℕ} (container : Container s c i w) {l : Layout} (laid : LaidOut s c i w l) (r : Lengths)
-    (told : r ≡ lengths_of (length (rest s l.area)) (children_at (rest s l.area) (numbers l.width l.count (rest s l.starts)))) where
-  same : r ≡ lengths_of (length (area_of c i w s)) (children_at (area_of c i w s) (starts_of c i w s))
-  same = told ∙ rw (area_same s c i w container l laid, starts_same s c i w container l laid)
+module _ (area starts : List ℕ) (r : Option Lying) (told : r ≡ lengths_of (length area) (children_at area starts)) where
+  pub lies_tiled : r ≡ Some EndToEnd → true ≡ tiled_in (length area) (children_at area starts)
+  lies_tiled e = sym (by_lengths (length area) (children_at area starts) r told e)
 
-  pub lies_tiled : r ≡ EndToEnd → true ≡ tiled_in (length (area_of c i w s)) (children_at (area_of c i w s) (starts_of c i w s))
-  lies_tiled e = sym (by_lengths (length (area_of c i w s)) (children_at (area_of c i w s) (starts_of c i w s)) r same e)
+  pub lies_otherwise : (r ≡ Some EndToEnd → ⊥) → false ≡ tiled_in (length area) (children_at area starts)
+  lies_otherwise other = sym (not_tiled (length area) (children_at area starts) r told other)
 
-  pub lies_broken : r ≡ Broken → false ≡ tiled_in (length (area_of c i w s)) (children_at (area_of c i w s) (starts_of c i w s))
-  lies_broken e =
-      sym (not_tiled (length (area_of c i w s)) (children_at (area_of c i w s) (starts_of c i w s)) r same (λ f. let z : ◌≡◌ {A = ℕ} 0 1 = cc in omega arith))
+  pub lies_broken : r ≡ None → false ≡ tiled_in (length area) (children_at area starts)
+  lies_broken e = lies_otherwise (λ f. let z : ◌≡◌ {A = ℕ} 0 1 = cc in omega arith)
 
-  pub lies_scattered : (sum : ℕ) → r ≡ Scattered sum → false ≡ tiled_in (length (area_of c i w s)) (children_at (area_of c i w s) (starts_of c i w s))
-  lies_scattered sum e =
-      sym (not_tiled (length (area_of c i w s)) (children_at (area_of c i w s) (starts_of c i w s)) r same (λ f. let z : ◌≡◌ {A = ℕ} 0 1 = cc in omega arith))
+  pub lies_scattered : (sum : ℕ) → r ≡ Some (Scattered sum) → false ≡ tiled_in (length area) (children_at area starts)
+  lies_scattered sum e = lies_otherwise (λ f. let z : ◌≡◌ {A = ℕ} 0 1 = cc in omega arith)
 
-  pub once_tiled : r ≡ EndToEnd → true ≡ once_in (length (area_of c i w s)) (children_at (area_of c i w s) (starts_of c i w s))
-  once_tiled e = sym (tiled_is_once (area_of c i w s) (starts_of c i w s) (sym (lies_tiled e)))
+  pub once_tiled : r ≡ Some EndToEnd → true ≡ once_in (length area) (children_at area starts)
+  once_tiled e = sym (tiled_is_once area starts (sym (lies_tiled e)))
 
-  pub once_broken : r ≡ Broken → false ≡ once_in (length (area_of c i w s)) (children_at (area_of c i w s) (starts_of c i w s))
-  once_broken e = sym (broken_none (length (area_of c i w s)) (children_at (area_of c i w s) (starts_of c i w s)) r same e)
-
-  -- b is what `covered` answered
-  pub once_covered : (b : Bool)
-      → b ≡ once_in (length (rest s l.area)) (children_at (rest s l.area) (numbers l.width l.count (rest s l.starts)))
-      → b ≡ once_in (length (area_of c i w s)) (children_at (area_of c i w s) (starts_of c i w s))
-  once_covered b e = e ∙ rw (area_same s c i w container l laid, starts_same s c i w container l laid)
-
-  pub covered_asks : (sum : ℕ) → r ≡ Scattered sum
-      → ((l.count * l.width ≤ length (rest s l.starts)) × (1 ≤ l.width) × (l.width ≤ 4) × (l.count ≤ most_walked) × (length (rest s l.area) ≤ most_walked))
-      × (lengths_of (length (rest s l.area)) (children_at (rest s l.area) (numbers l.width l.count (rest s l.starts))) ≡ Scattered sum)
-  covered_asks sum e = (lengths_asks s c i w container l laid, sym told ∙ e)
-
--- ---- the answers about an object
-
-module _ {s : List ℕ} {c i w : ℕ} (container : Container s c i w) {l : Layout} (laid : LaidOut s c i w l) (names : Dictionary) (b : Bool)
-    (told : b ≡ all_below (length names) (numbers i l.count (rest s (1 + c))) && rising (names_at names (numbers i l.count (rest s (1 + c))))) where
-  by_ids : b ≡ all_below (length names) (ids_of c i s) && rising (names_at names (ids_of c i s))
-  by_ids = told ∙ rw (ids_same s c i w container l laid)
-
-  pub names_rise_lies : b ≡ true → (r once : Bool) → r ≡ once → r ≡ (all_below (length names) (ids_of c i s) && rising (names_at names (ids_of c i s))) && once
-  names_rise_lies e r once f = rw (← by_ids, e) f
-
-  pub names_fall_lies : b ≡ false → (once : Bool) → false ≡ (all_below (length names) (ids_of c i s) && rising (names_at names (ids_of c i s))) && once
-  names_fall_lies e once = rw (← by_ids, e)
-
-pub names_asks : {s : List ℕ} {c i w : ℕ} → Container s c i w → {l : Layout} → LaidOut s c i w l → 1 ≤ i
-    → (l.count * i ≤ length (rest s (1 + c))) × (1 ≤ i) × (i ≤ 4)
-names_asks {s} {c} {i} {w} container {l} laid least = (ids_there s c i w container l laid, least, container.id_most)
+  pub once_broken : r ≡ None → false ≡ once_in (length area) (children_at area starts)
+  once_broken e = sym (broken_none (length area) (children_at area starts) r told e)

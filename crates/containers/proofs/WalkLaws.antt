@@ -1,8 +1,8 @@
 -- The walk over an area by the children's lengths: it covers what it has passed, it stands where a child ends, and where
 -- no child starts under it some byte is not held once.
+use Rattle.std.specs.Prelude.{None, Some, Option}
 use mathlib.Core.Bool.{Bool, true, false, not}
 use mathlib.Core.List.{List, [], ◌∷◌, map}
-use mathlib.Core.Option.{none, some, some-injective}
 use mathlib.Core.Path.{◌≡◌, refl, sym, ap, ◌∙◌}
 use Prim.Native.Nat.{ℕ, zero, suc, ◌+◌, ◌-◌, ◌*◌, ◌≤◌, ◌<◌}
 use native.Mathlib.Omega.{arith}
@@ -11,11 +11,9 @@ use lib.Dec.{leb, ltb, eqb}
 use lib.ListN.{length, drop}
 use mir.Syntax.{w64}
 use mir.Val.{Fits}
-use Rattle.heads.specs.Extents.{extent_answer}
-use Rattle.heads.specs.declared.Extent.TheVariants.{Size, Unknown}
-use Rattle.heads.specs.declared.Extent.{Extent}
 use Rattle.paper.specs.Bounds.{most_walked}
-use Rattle.paper.specs.Values.{Child, child_extent, children_at, holders, every_byte_once}
+use Rattle.paper.specs.Values.{child_extent, children_at, holders, every_byte_once}
+use Rattle.paper.specs.declared.Child.{Child}
 use Rattle.paper.specs.Words.{one_if, is_there, all_below}
 use Rattle.containers.specs.Children.{sizes}
 use Rattle.containers.specs.Marks.{bit_of, Marked}
@@ -24,14 +22,14 @@ use Rattle.paper.proofs.WordLaws.{never, and_both, some_there as some-is-there}
 use Rattle.containers.proofs.BitLaws.{bit_or_none}
 use Rattle.containers.proofs.ChildLaws.{AllSized, SizedIn, children_sized, children_below, extent_fits}
 use Rattle.containers.proofs.CoverLaws.{Test, passed, failed, equal, less, inside, holding, Holds, held, before_it, behind_it, AllWithin, starting, ending, total_sizes, once_by_sum, cut_without_start, holders_cons}
-use Rattle.containers.proofs.LengthLaws.{unknown_none, size_some}
 use Rattle.containers.proofs.MarkLaws.{times, starting_times, map_says}
+use Rattle.std.proofs.lemmas.Option.{same_Some}
 
 -- ---- a child that starts under the walk
 
-module _ (area : List ℕ) (place size : ℕ) (long : child_extent area place ≡ some size) where
-  same_size : (child : Child) → child_extent area child.start ≡ some child.size → child.start ≡ place → child.size ≡ size
-  same_size child e f = some-injective child.size size (sym e ∙ ap (child_extent area) f ∙ long)
+module _ (area : List ℕ) (place size : ℕ) (long : child_extent area place ≡ Some size) where
+  same_size : (child : Child) → child_extent area child.start ≡ Some child.size → child.start ≡ place → child.size ≡ size
+  same_size child e f = same_Some child.size size (sym e ∙ ap (child_extent area) f ∙ long)
 
   pub start_ends : (children : List Child) → AllSized area children → 1 ≤ starting place children → 1 ≤ ending (place + size) children
   unfolding AllSized starting ending one_if
@@ -71,13 +69,13 @@ module _ (area : List ℕ) (place size : ℕ) (long : child_extent area place �
 
 -- A child that starts at a place has a length there.
 pub start_extent : (area : List ℕ) (place : ℕ) (children : List Child) → AllSized area children → 1 ≤ starting place children
-    → (size : ℕ) × (child_extent area place ≡ some size)
+    → (size : ℕ) × (child_extent area place ≡ Some size)
 unfolding AllSized starting one_if
 start_extent area place [] sized h = absurd (omega arith)
 start_extent area place (child ∷ more) sized h = go (equal child.start place) (start_extent area place more sized.1) h
   where
-    go : Test (eqb child.start place) (child.start ≡ place) (child.start ≡ place → ⊥) → (1 ≤ starting place more → (size : ℕ) × (child_extent area place ≡ some size))
-        → 1 ≤ one_if (eqb child.start place) + starting place more → (size : ℕ) × (child_extent area place ≡ some size)
+    go : Test (eqb child.start place) (child.start ≡ place) (child.start ≡ place → ⊥) → (1 ≤ starting place more → (size : ℕ) × (child_extent area place ≡ Some size))
+        → 1 ≤ one_if (eqb child.start place) + starting place more → (size : ℕ) × (child_extent area place ≡ Some size)
     go (passed t e) rest h = (child.size, ap (child_extent area) (sym e) ∙ sized.0)
     go (failed t e) rest h =
         let later : 1 ≤ one_if false + starting place more = rw t at h in
@@ -119,13 +117,13 @@ module _ (area : List ℕ) (children : List Child) (marks : List ℕ) (scattered
     here : 1 ≤ starting place children
     here = some_there (starting place children) (λ e. mark (scattered.starts place h ∙ e))
 
-    pub walk_lost : child_extent area place ≡ none → false ≡ every_byte_once (length area) children
+    pub walk_lost : child_extent area place ≡ None → false ≡ every_byte_once (length area) children
     unfolding is_there
     walk_lost e =
         let has = start_extent area place children scattered.sized here in
         never (sym (ap is_there (sym e ∙ has.1)))
 
-    pub walk_on : (size : ℕ) → child_extent area place ≡ some size → Walked children (place + size)
+    pub walk_on : (size : ℕ) → child_extent area place ≡ Some size → Walked children (place + size)
     walk_on size e =
         record {
           passed_held = λ i k. go i k (less i place);
@@ -214,7 +212,7 @@ module _ {area marks : List ℕ} {place : ℕ} (seen : WalkSeen area marks place
           go true e f most = never (sym f)
           go false e f most = let apart = eqb-false (bit_of marks place) 1 (sym e) in omega arith
 
-      module _ (f : not b ≡ false) (r : Extent) (told : r ≡ extent_answer (child_extent area place)) where
+      module _ (f : not b ≡ false) (r : Option ℕ) (told : r ≡ child_extent area place) where
         mark : bit_of marks place ≡ 0 → ⊥
         mark z = go b says f
           where
@@ -222,14 +220,14 @@ module _ {area marks : List ℕ} {place : ℕ} (seen : WalkSeen area marks place
             go true e f = let one = eqb-true (bit_of marks place) 1 (sym e) in omega arith
             go false e f = never f
 
-        pub seen_lost : r ≡ Unknown → Answers false
+        pub seen_lost : r ≡ None → Answers false
         seen_lost e starts children m =
             walk_lost area children marks (marked_scattered area starts children marks m) place (seen.walked starts children m) h mark
-            (unknown_none (child_extent area place) (sym told ∙ e))
+            (sym told ∙ e)
 
-        module _ (size : ℕ) (e : r ≡ Size size) where
-          known : child_extent area place ≡ some size
-          known = size_some (child_extent area place) size (sym told ∙ e)
+        module _ (size : ℕ) (e : r ≡ Some size) where
+          known : child_extent area place ≡ Some size
+          known = sym told ∙ e
 
           pub seen_fits : length area ≤ most_walked → Fits w64 (place + size)
           seen_fits small = let fit = extent_fits area place size known in record { fits = omega arith }

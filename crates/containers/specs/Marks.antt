@@ -1,8 +1,8 @@
 -- The map of starts: a bit for each place of an area, 1 where a child starts.
-use Rattle.std.specs.Prelude.{◌≡◌, List, [], ◌∷◌, ℕ, ◌*◌, ◌/◌, ◌%◌, ◌^◌, ◌≤◌, length, get_or, set, replicate}
-use Rattle.std.proofs.Math.Option.{some}
+use Rattle.std.specs.Prelude.{◌≡◌, List, [], ◌∷◌, ℕ, ◌*◌, ◌/◌, ◌%◌, ◌^◌, ◌≤◌, length, get_or, set, replicate, Some}
 use Rattle.std.specs.Int.Bits.{bit_or}
-use Rattle.paper.specs.Values.{Child, children_at}
+use Rattle.paper.specs.Values.{children_at}
+use Rattle.paper.specs.declared.Child.{Child}
 use Rattle.containers.specs.Children.{sizes}
 
 unfoldable pub bit_of : List ℕ → (place : ℕ) → ℕ
@@ -18,7 +18,7 @@ mark_all marks (start ∷ more) = mark_all (set_bit marks start) more
 -- The children at some starts are there, their sizes come to the area's length, and the starts are marked on a clean map
 -- that has a bit for each byte of the area.
 pub record Marked (area starts : List ℕ) (children : List Child) (marks : List ℕ) : Type 0 where
-  pub are : children_at area starts ≡ some children
+  pub are : children_at area starts ≡ Some children
   pub sum : sizes children ≡ length area
   pub size : ℕ
   pub room : length area ≤ 8 * size

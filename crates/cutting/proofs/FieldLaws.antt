@@ -1,7 +1,8 @@
 -- The places of an object's fields: the first one's in front of those behind it, from the member that has its name or empty.
+use Rattle.dictionary.specs.declared.ids.InputId.{InputId}
+use Rattle.std.specs.Prelude.{None, Some, Option}
 use mathlib.Core.Bool.{Bool, true, false}
 use mathlib.Core.List.{List, [], ◌∷◌}
-use mathlib.Core.Option.{none, some}
 use mathlib.Core.Path.{◌≡◌, sym, ap, ◌∙◌}
 use Prim.Native.Nat.{ℕ, ◌-◌, ◌<◌}
 use native.Mathlib.Omega.{arith}
@@ -11,8 +12,6 @@ use lib.Dec.{ltb, eqb}
 use lib.ListN.{get_or}
 use Rattle.forms.specs.WellFormed.{all_members, names_there, field_names_there}
 use Rattle.lookup.specs.Looking.{Tells, found, missing}
-use Rattle.lookup.specs.declared.Looked.TheVariants.{At, Nowhere}
-use Rattle.lookup.specs.declared.Looked.{Looked}
 use Rattle.members.specs.Members.{PartThere, member_id, member_part, From, ended, further}
 use Rattle.members.specs.declared.Members.{Members}
 use Rattle.names.proofs.IdLaws.{id_name, id_place}
@@ -32,21 +31,21 @@ use Rattle.cutting.proofs.SkipLaws.{skipped, from_run, from_skipped, first_above
 
 pub record Reached (names : Dictionary) (good : Doc → Bool) (s : List ℕ) (m : Members) (k : ℕ) (name : List ℕ) (fs : Fields) : Type 0 where
   pub d : Doc
-  pub is : field_at name fs ≡ some d
+  pub is : field_at name fs ≡ Some d
   pub part_is : member_part s m k ≡ value_bytes names d
   pub part_there : PartThere s m k
   pub well : good d ≡ true
   pub known : names_there names d ≡ true
 
 module _ (names : Dictionary) (s : List ℕ) (m : Members) (k : ℕ) (name : List ℕ) where
-  pub reached : (good : Doc → Bool) (looked : Looked) → Tells names name looked → {fs : Fields} → From names s m k fs → field_names_there names fs ≡ true
+  pub reached : (good : Doc → Bool) (looked : Option InputId) → Tells names name looked → {fs : Fields} → From names s m k fs → field_names_there names fs ≡ true
       → all_members good fs ≡ true → is_member s m k looked ≡ true → Reached names good s m k name fs
   unfolding is_member field_at field_names_there all_members
-  reached good Nowhere tells held there well is-it = never (sym is-it)
-  reached good (At id) tells (ended e) there well is-it =
+  reached good None tells held there well is-it = never (sym is-it)
+  reached good (Some id) tells (ended e) there well is-it =
       let below = ltb-true k m.count (and_both (ltb k m.count) (eqb id.0 (member_id s m k)) is-it).0 in
       absurd (omega arith)
-  reached good (At id) (found _ in_names named-so) (further {name = first} {d = d} {fs = fs} part id_there id_is part_is more) there well is-it =
+  reached good (Some id) (found _ in_names named-so) (further {name = first} {d = d} {fs = fs} part id_there id_is part_is more) there well is-it =
       let same_id = eqb-true id.0 (member_id s m k) (and_both (ltb k m.count) (eqb id.0 (member_id s m k)) is-it).1 in
       let firsts = and_both (among first names) _ there in
       let place : id.0 ≡ id_of names first = same_id ∙ id_is in
@@ -60,11 +59,11 @@ module _ (names : Dictionary) (s : List ℕ) (m : Members) (k : ℕ) (name : Lis
         known = (and_both (names_there names d) (field_names_there names fs) firsts.1).0;
       }
 
-  pub not_reached : (from : ℕ) (looked : Looked) → PassedBy s m from looked k → Tells names name looked → {fs : Fields} → From names s m k fs
-      → rising names ≡ true → rising (field_names fs) ≡ true → field_names_there names fs ≡ true → is_member s m k looked ≡ false → field_at name fs ≡ none
+  pub not_reached : (from : ℕ) (looked : Option InputId) → PassedBy s m from looked k → Tells names name looked → {fs : Fields} → From names s m k fs
+      → rising names ≡ true → rising (field_names fs) ≡ true → field_names_there names fs ≡ true → is_member s m k looked ≡ false → field_at name fs ≡ None
   unfolding is_member
-  not_reached from Nowhere passed (missing unknown) {fs} held names_rise rise there is-not = unknown_missing names name fs there unknown
-  not_reached from (At id) (up_to _ _ p) (found _ in_names named-so) {fs} held names_rise rise there is-not =
+  not_reached from None passed (missing unknown) {fs} held names_rise rise there is-not = unknown_missing names name fs there unknown
+  not_reached from (Some id) (up_to _ _ p) (found _ in_names named-so) {fs} held names_rise rise there is-not =
       let own : id_of names name ≡ id.0 = rw named-so at (id_place names id.0 names_rise in_names) in
       lower_missing names name fs names_rise rise there (λ first d more e. go first d more own (rw e at held))
     where
@@ -78,7 +77,7 @@ module _ (names : Dictionary) (s : List ℕ) (m : Members) (k : ℕ) (name : Lis
 
 -- ---- the members that are passed on the way to a column's
 
-module _ {names : Dictionary} {s : List ℕ} {m : Members} {k : ℕ} {fs : Fields} {looked : Looked} {to : ℕ}
+module _ {names : Dictionary} {s : List ℕ} {m : Members} {k : ℕ} {fs : Fields} {looked : Option InputId} {to : ℕ}
     (held : From names s m k fs) (passed : PassedBy s m k looked to) where
   abbrev rest : Fields
   rest = skipped (to - k) fs
@@ -86,7 +85,7 @@ module _ {names : Dictionary} {s : List ℕ} {m : Members} {k : ℕ} {fs : Field
   pub passed_from : From names s m to rest
   passed_from = go passed
     where
-      go : {looked : Looked} {to : ℕ} → PassedBy s m k looked to → From names s m to (skipped (to - k) fs)
+      go : {looked : Option InputId} {to : ℕ} → PassedBy s m k looked to → From names s m to (skipped (to - k) fs)
       go (up_to id to p) = let behind = p.behind in from_skipped (to - k) held to (omega arith) p.within
       go passed_none = from_skipped (k - k) held k (omega arith) (from_run held).within
 
@@ -96,7 +95,7 @@ module _ {names : Dictionary} {s : List ℕ} {m : Members} {k : ℕ} {fs : Field
     unfolding skipped column_names
     passed_cut = go passed tells
       where
-        go : {looked : Looked} {to : ℕ} → PassedBy s m k looked to → Tells names name looked
+        go : {looked : Option InputId} {to : ℕ} → PassedBy s m k looked to → Tells names name looked
             → cut_fields (named name node more) fs ≡ cut_fields (named name node more) (skipped (to - k) fs)
         go (up_to id to p) tells =
             let behind = p.behind in

@@ -1,4 +1,5 @@
 -- `fields`: the first field's place in front of those behind it, from the member that has its name, or empty.
+use Rattle.std.specs.Prelude.{Some, None, Option}
 use mathlib.Core.Bool.{true, false}
 use mathlib.Core.List.{List, [], ◌∷◌, ◌++◌}
 use mathlib.Core.Path.{◌≡◌, ap, ◌∙◌}
@@ -19,8 +20,6 @@ use Rattle.paper.specs.Shredding.{cut, cut_field, cut_fields, place_bytes, place
 use Rattle.paper.specs.Standing.{field_at}
 use Rattle.putting.proofs.PutLaws.{put_join, told_here, told_full}
 use Rattle.putting.specs.Put.{PutAs, put, full}
-use Rattle.putting.specs.declared.Put.TheVariants.{At, Full}
-use Rattle.putting.specs.declared.Put.{Put}
 use Rattle.schemas.proofs.FieldsStandLaws.{FirstField, no_field, first_field, field_framed, field_named}
 use Rattle.schemas.specs.Frames.{frame_end}
 use Rattle.schemas.specs.Positions.{field_node}
@@ -33,7 +32,7 @@ module _ {levels : ℕ} {ranks schema table : List ℕ} {from to : ℕ} {s : Lis
     (ready : FieldsReady levels ranks schema table from to s m k notes ids) where
   -- ---- no field is left
 
-  pub fields_none : from ≡ to → {before : List ℕ} {end : ℕ} → PutAs (fields_cut ready) before before 0 end (At end)
+  pub fields_none : from ≡ to → {before : List ℕ} {end : ℕ} → PutAs (fields_cut ready) before before 0 end (Some end)
   unfolding cut_fields places_bytes
   fields_none e {before} {end} =
       let no_columns_lem : ready.columns ≡ none_named = no_field ready.stand (omega arith) in
@@ -116,21 +115,21 @@ module _ {levels : ℕ} {ranks schema table : List ℕ} {from to : ℕ} {s : Lis
             ∙ ap (places_bytes ready.names)
             (passed_cut ready.held passed first.name first.node first.more ready.ground.rises told.here rise ready.there)
 
-        pub fields_full : {before after : List ℕ} {end : ℕ} {r : Put} → PutAs (fields_cut next_ready) before after 0 end r → r ≡ Full
-            → PutAs (fields_cut ready) before after 0 end Full
+        pub fields_full : {before after : List ℕ} {end : ℕ} {r : Option ℕ} → PutAs (fields_cut next_ready) before after 0 end r → r ≡ None
+            → PutAs (fields_cut ready) before after 0 end None
         fields_full behind e =
             let short = told_full behind e in
             let long = ap length split ∙ length-append own (fields_cut next_ready) in
             full (omega arith)
 
-        joined : {before middle after : List ℕ} {start end : ℕ} {r q : Put} → end ≤ length before → PutAs (fields_cut next_ready) before middle 0 end r
-            → r ≡ At start → PutAs own middle after 0 start q → PutAs (fields_cut ready) before after 0 end q
+        joined : {before middle after : List ℕ} {start end : ℕ} {r q : Option ℕ} → end ≤ length before → PutAs (fields_cut next_ready) before middle 0 end r
+            → r ≡ Some start → PutAs own middle after 0 start q → PutAs (fields_cut ready) before after 0 end q
         joined within behind e one = rw split (put_join within (told_here behind e).1 one)
 
         -- ---- no member has its name
 
-        pub put_missing : is_member s m here (looked_at table from) ≡ false → {before middle after : List ℕ} {start end : ℕ} {r q : Put} → end ≤ length before
-            → PutAs (fields_cut next_ready) before middle 0 end r → r ≡ At start → PutAs (frame 0x50 []) middle after 0 start q
+        pub put_missing : is_member s m here (looked_at table from) ≡ false → {before middle after : List ℕ} {start end : ℕ} {r q : Option ℕ} → end ≤ length before
+            → PutAs (fields_cut next_ready) before middle 0 end r → r ≡ Some start → PutAs (frame 0x50 []) middle after 0 start q
             → PutAs (fields_cut ready) before after 0 end q
         unfolding cut_field place_bytes next_ready
         put_missing is-not within behind e one =
@@ -180,8 +179,8 @@ module _ {levels : ℕ} {ranks schema table : List ℕ} {from to : ℕ} {s : Lis
               }
 
           pub put_member : {next notes'' ids'' : ℕ} (is : next ≡ frame_end schema from) (also-notes : notes'' ≡ notes) (also-ids : ids'' ≡ ids)
-              → {before middle after : List ℕ} {start end : ℕ} {r q : Put} → end ≤ length before
-              → PutAs (fields_cut (next_ready is also-notes also-ids)) before middle 0 end r → r ≡ At start → PutAs (place_cut member_ready) middle after 0 start q
+              → {before middle after : List ℕ} {start end : ℕ} {r q : Option ℕ} → end ≤ length before
+              → PutAs (fields_cut (next_ready is also-notes also-ids)) before middle 0 end r → r ≡ Some start → PutAs (place_cut member_ready) middle after 0 start q
               → PutAs (fields_cut ready) before after 0 end q
           unfolding cut_field member_ready
           put_member is also-notes also-ids within behind e one = joined is also-notes also-ids within behind e (rw member.is one)

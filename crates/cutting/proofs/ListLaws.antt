@@ -1,4 +1,5 @@
 -- `list_place`: an array's elements written last to first, those from one on stand up to the end; then the heads.
+use Rattle.std.specs.Prelude.{Some, None, Option}
 use mathlib.Core.Bool.{true}
 use mathlib.Core.List.{List, [], ◌++◌}
 use mathlib.Core.Logic.{◌⊎◌, inl, inr}
@@ -6,7 +7,7 @@ use mathlib.Core.Path.{◌≡◌, refl, sym, ap, ◌∙◌}
 use Prim.Native.Nat.{ℕ, zero, suc, ◌+◌, ◌-◌, ◌≤◌, ◌<◌}
 use native.Mathlib.Omega.{arith}
 use lib.ListN.{length, get_or, length-append, length-take, length-drop}
-use Rattle.containers.specs.Layouts.{Container}
+use Rattle.containers.specs.Layouts.{HeadThere}
 use Rattle.enclosing.proofs.FrameLaws.{place_long, put_place}
 use Rattle.enclosing.specs.Frames.{frame_head, place_of}
 use Rattle.forms.specs.WellFormed.{all_docs, well_formed_by, well_formed, names_there, all_names_there}
@@ -28,8 +29,6 @@ use Rattle.paper.specs.declared.Reading.TheVariants.{ArrayHead}
 use Rattle.paper.specs.declared.Reading.{Reading}
 use Rattle.putting.proofs.PutLaws.{told_here, told_full, told_length, told_room}
 use Rattle.putting.specs.Put.{Room, PutAs, full}
-use Rattle.putting.specs.declared.Put.TheVariants.{At, Full}
-use Rattle.putting.specs.declared.Put.{Put}
 use Rattle.writing.proofs.EndLaws.{nothing_ends, ends_join}
 use Rattle.writing.specs.Ends.{EndsAt}
 use Rattle.cutting.specs.Cutting.{PlaceReady, place_cut, ListReady, list_cut}
@@ -121,7 +120,7 @@ module _ {levels : ℕ} {ranks schema table : List ℕ} {node : ℕ} {s : List �
   list_first = let valued = ready.valued in rw valued.is (omega (arith, value_there ready.names valued.d))
 
   module _ {r : Reading} (told : r ≡ reading_of (at s 0)) where
-    pub put-no_array : ((counted width : ℕ) → r ≡ ArrayHead counted width → ⊥) → {before after : List ℕ} {end : ℕ} {q : Put} → PutAs (place_of 0x41 s) before after 0 end q
+    pub put-no_array : ((counted width : ℕ) → r ≡ ArrayHead counted width → ⊥) → {before after : List ℕ} {end : ℕ} {q : Option ℕ} → PutAs (place_of 0x41 s) before after 0 end q
         → PutAs (list_cut ready) before after 0 end q
     put-no_array other done =
         let valued = ready.valued in
@@ -132,7 +131,7 @@ module _ {levels : ℕ} {ranks schema table : List ℕ} {node : ℕ} {s : List �
       opened : ArrayOpened ready.names ready.valued.d s counted width
       opened = let valued = ready.valued in array_opens ready.names valued.depth valued.d s valued.good valued.is told small counted width says
 
-      pub list_container : Container s counted 0 width
+      pub list_container : HeadThere s counted 0 width
       list_container = opened.container
 
       module _ {m : Members} (stand : MembersAt s counted 0 width m) where
@@ -227,7 +226,7 @@ module _ {levels : ℕ} {ranks schema table : List ℕ} {node : ℕ} {s : List �
 
   module _ {notes₀ ids₀ out₀ : List ℕ} {end : ℕ} {notes ids out : List ℕ} {start i : ℕ}
       (seen : ListSeen levels ranks schema table node s notes₀ ids₀ out₀ end m notes ids out start i) (fits : end ≤ length out₀) where
-    module _ (k : ℕ) (next : k + 1 ≡ i) {part : List ℕ} (part_is : part ≡ member_part s m k) {after : List ℕ} {q : Put}
+    module _ (k : ℕ) (next : k + 1 ≡ i) {part : List ℕ} (part_is : part ≡ member_part s m k) {after : List ℕ} {q : Option ℕ}
         (put : (one : PlaceReady levels ranks schema table node part (length notes) (length ids)) → PutAs (place_cut one) out after 0 start q) where
       below_count : k < m.count
       below_count = let most = seen.within in omega arith
@@ -247,7 +246,7 @@ module _ {levels : ℕ} {ranks schema table : List ℕ} {node : ℕ} {s : List �
             let split : behind k ds ≡ doc here.d (behind i ds) = rw (docs, up) at here.from_here in
             ap (λ (es : Docs). places_bytes ready.names (cut_all (λ d. cut ready.element d) es)) split
 
-        pub list_full : q ≡ Full → PutAs (list_cut ready) out₀ after 0 end Full
+        pub list_full : q ≡ None → PutAs (list_cut ready) out₀ after 0 end None
         list_full e =
             let ds : Docs = (opened ready told says).docs in
             let is : ready.valued.d ≡ array ds = (opened ready told says).is in
@@ -257,7 +256,7 @@ module _ {levels : ℕ} {ranks schema table : List ℕ} {node : ℕ} {s : List �
             let all = behind_long ready.names ready.element ds k in
             rw (list_is ready ds is) (full (omega (arith, place_long 0x42 (places_bytes ready.names (cut_all (λ d. cut ready.element d) ds)))))
 
-      pub list_next : ListReady levels ranks schema table node s (length notes₀) (length ids₀) → {first : ℕ} → q ≡ At first → {notes' ids' : List ℕ} → length notes' ≡ length notes → length ids' ≡ length ids
+      pub list_next : ListReady levels ranks schema table node s (length notes₀) (length ids₀) → {first : ℕ} → q ≡ Some first → {notes' ids' : List ℕ} → length notes' ≡ length notes → length ids' ≡ length ids
           → ListSeen levels ranks schema table node s notes₀ ids₀ out₀ end m notes' ids' after first k
       list_next ready {first} e {notes'} {ids'} same-notes same_ids =
           let done = put (element_here ready) in
@@ -276,7 +275,7 @@ module _ {levels : ℕ} {ranks schema table : List ℕ} {node : ℕ} {s : List �
             ends = λ ready ds is. rw (from_here ready ds is) (ends_join (seen.ends ready ds is) fits (told_here (put (element_here ready)) e).1);
           }
 
-    pub list_put : i ≡ 0 → {after : List ℕ} {q : Put} → PutAs (frame_head 0x50 (3 + (end - start)) ++ frame_head 0x42 (end - start)) out after 0 start q
+    pub list_put : i ≡ 0 → {after : List ℕ} {q : Option ℕ} → PutAs (frame_head 0x50 (3 + (end - start)) ++ frame_head 0x42 (end - start)) out after 0 start q
         → (ready : ListReady levels ranks schema table node s (length notes₀) (length ids₀)) → PutAs (list_cut ready) out₀ after 0 end q
     unfolding behind
     list_put e heads ready =

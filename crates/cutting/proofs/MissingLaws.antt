@@ -1,4 +1,5 @@
 -- `missing`: empty places are all alike, so those of the fields that were passed may stand behind those of the fields that are left.
+use Rattle.std.specs.Prelude.{Some, None, Option}
 use mathlib.Core.List.{List, [], ◌++◌, append_assoc, append-nil}
 use mathlib.Core.Path.{◌≡◌, refl, sym, ap, ◌∙◌}
 use Prim.Native.Nat.{ℕ, ◌+◌, ◌-◌, ◌≤◌, ◌<◌}
@@ -15,8 +16,6 @@ use Rattle.paper.specs.Shredding.{cut_field, cut_fields, place_bytes, places_byt
 use Rattle.paper.specs.Standing.{field_at}
 use Rattle.putting.proofs.PutLaws.{told_here, told_full, told_length, told_room}
 use Rattle.putting.specs.Put.{Room, PutAs, put, full}
-use Rattle.putting.specs.declared.Put.TheVariants.{At, Full}
-use Rattle.putting.specs.declared.Put.{Put}
 use Rattle.schemas.proofs.FieldsStandLaws.{FirstField, no_field, first_field, field_framed}
 use Rattle.schemas.specs.Frames.{frame_end}
 use Rattle.schemas.specs.Positions.{FieldsStand}
@@ -53,7 +52,7 @@ missing_start {out = out} {end = end} room =
     }
 
 module _ {schema : List ℕ} {from to : ℕ} {before out : List ℕ} {end start field : ℕ} (seen : MissingSeen schema from to before out end start field) where
-  pub missing_done : to ≤ field → (levels : ℕ) (columns : SchemaFields) → FieldsStand levels schema from to columns → PutAs (empties columns) before out 0 end (At start)
+  pub missing_done : to ≤ field → (levels : ℕ) (columns : SchemaFields) → FieldsStand levels schema from to columns → PutAs (empties columns) before out 0 end (Some start)
   unfolding empties
   missing_done over levels columns stand =
       let left = seen.left levels columns stand in
@@ -86,8 +85,8 @@ module _ {schema : List ℕ} {from to : ℕ} {before out : List ℕ} {end start 
         ∙ ap (λ (l : List ℕ). l ++ left.written) (alike (first stand).more)
         ∙ append_assoc (empties (first stand).more) (frame 0x50 []) left.written
 
-    module _ (fits : end ≤ length before) {after : List ℕ} {q : Put} (one : PutAs (frame 0x50 []) out after 0 start q) where
-      pub missing_full : q ≡ Full → (levels : ℕ) (columns : SchemaFields) → FieldsStand levels schema from to columns → PutAs (empties columns) before after 0 end Full
+    module _ (fits : end ≤ length before) {after : List ℕ} {q : Option ℕ} (one : PutAs (frame 0x50 []) out after 0 start q) where
+      pub missing_full : q ≡ None → (levels : ℕ) (columns : SchemaFields) → FieldsStand levels schema from to columns → PutAs (empties columns) before after 0 end None
       missing_full e levels columns stand =
           let left = seen.left levels columns stand in
           let short = told_full one e in
@@ -97,7 +96,7 @@ module _ {schema : List ℕ} {from to : ℕ} {before out : List ℕ} {end start 
           let long = ap length (one_more stand) in
           full (omega arith)
 
-      pub missing_next : {next place : ℕ} → q ≡ At next → place ≡ frame_end schema field → MissingSeen schema from to before after end next place
+      pub missing_next : {next place : ℕ} → q ≡ Some next → place ≡ frame_end schema field → MissingSeen schema from to before after end next place
       missing_next e is =
           record {
             room = told_room one seen.room e;
@@ -123,7 +122,7 @@ module _ {levels : ℕ} {ranks schema table : List ℕ} {from to : ℕ} {s : Lis
   pub some_fields : SomeFields schema from to
   some_fields = record { levels = levels; columns = ready.columns; stand = ready.stand }
 
-  pub put_all_missing : m.count ≤ k → {before after : List ℕ} {end : ℕ} {q : Put}
+  pub put_all_missing : m.count ≤ k → {before after : List ℕ} {end : ℕ} {q : Option ℕ}
       → ((inner : ℕ) (columns : SchemaFields) → FieldsStand inner schema from to columns → PutAs (empties columns) before after 0 end q)
       → PutAs (fields_cut ready) before after 0 end q
   put_all_missing over done =

@@ -1,4 +1,5 @@
 -- `place`: by the kind of the node, a leftover, a value under a column, a list's or an object's.
+use Rattle.std.specs.Prelude.{Option, Some, None}
 use mathlib.Core.List.{List}
 use mathlib.Core.Path.{◌≡◌, ap, ◌∙◌}
 use Prim.Native.Nat.{ℕ, ◌+◌, ◌-◌, ◌≤◌}
@@ -11,7 +12,6 @@ use Rattle.paper.specs.Schemas.{Schema}
 use Rattle.paper.specs.Shredding.{cut, place_bytes}
 use Rattle.paper.specs.Words.{at}
 use Rattle.putting.specs.Put.{PutAs}
-use Rattle.putting.specs.declared.Put.{Put}
 use Rattle.schemas.proofs.KindLaws.{kind_there, leftover_here_lem, column_here_lem, list_here_lem, object_here}
 use Rattle.schemas.proofs.StandingLaws.{some_level}
 use Rattle.schemas.specs.Frames.{frame_end}
@@ -23,7 +23,7 @@ use Rattle.cutting.proofs.ColumnLaws.{column_cut, value_headed}
 
 -- A value that is left over as it is.
 pub put_left : (node : Schema) {names : _} {s : List ℕ} {notes ids : ℕ} (valued : Valued names s notes ids) → cut node valued.d ≡ leftover valued.d
-    → {before after : List ℕ} {end : ℕ} {r : Put} → PutAs (place_of 0x41 s) before after 0 end r → PutAs (place_bytes names (cut node valued.d)) before after 0 end r
+    → {before after : List ℕ} {end : ℕ} {r : Option ℕ} → PutAs (place_of 0x41 s) before after 0 end r → PutAs (place_bytes names (cut node valued.d)) before after 0 end r
 unfolding place_bytes place_of
 put_left node valued is done = rw (is, ← valued.is) done
 
@@ -43,13 +43,13 @@ module _ {levels : ℕ} {ranks schema table : List ℕ} {node : ℕ} {s : List �
       rw valued.is (value_headed ready.names valued.depth valued.d valued.good (rw valued.is at valued.short))
 
   module _ {k : Kind} (is : k ≡ kind_at schema node) where
-    pub put_leftover : k ≡ Leftover → {before after : List ℕ} {end : ℕ} {r : Put} → PutAs (place_of 0x41 s) before after 0 end r → PutAs (place_cut ready) before after 0 end r
+    pub put_leftover : k ≡ Leftover → {before after : List ℕ} {end : ℕ} {r : Option ℕ} → PutAs (place_of 0x41 s) before after 0 end r → PutAs (place_cut ready) before after 0 end r
     unfolding cut
     put_leftover e done =
         let node_is = leftover_here_lem ready.stands is e in
         put_left ready.under ready.valued (rw node_is) done
 
-    pub put_column : {code : ℕ} → k ≡ ColumnKind code → {before after : List ℕ} {end : ℕ} {r : Put} → PutAs (column_place code (reading_of (at s 0)) s) before after 0 end r
+    pub put_column : {code : ℕ} → k ≡ ColumnKind code → {before after : List ℕ} {end : ℕ} {r : Option ℕ} → PutAs (column_place code (reading_of (at s 0)) s) before after 0 end r
         → PutAs (place_cut ready) before after 0 end r
     put_column {code} e done =
         let valued = ready.valued in
@@ -73,7 +73,7 @@ module _ {levels : ℕ} {ranks schema table : List ℕ} {node : ℕ} {s : List �
             valued = ready.valued;
           }
 
-      pub put_list : {before after : List ℕ} {end : ℕ} {r : Put} → PutAs (list_cut list_ready) before after 0 end r → PutAs (place_cut ready) before after 0 end r
+      pub put_list : {before after : List ℕ} {end : ℕ} {r : Option ℕ} → PutAs (list_cut list_ready) before after 0 end r → PutAs (place_cut ready) before after 0 end r
       unfolding list_ready
       put_list done = let here = list_here_lem ready.stands is e in rw here.1 done
 
@@ -90,6 +90,6 @@ module _ {levels : ℕ} {ranks schema table : List ℕ} {node : ℕ} {s : List �
             valued = ready.valued;
           }
 
-      pub put_object : {before after : List ℕ} {end : ℕ} {r : Put} → PutAs (object_cut object_ready) before after 0 end r → PutAs (place_cut ready) before after 0 end r
+      pub put_object : {before after : List ℕ} {end : ℕ} {r : Option ℕ} → PutAs (object_cut object_ready) before after 0 end r → PutAs (place_cut ready) before after 0 end r
       unfolding object_ready
       put_object done = let here = object_here ready.stands is e in rw here.1 done

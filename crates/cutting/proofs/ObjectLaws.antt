@@ -1,4 +1,5 @@
 -- `object_place`: an object's places, their head, what is left over in front of that, and the place's head.
+use Rattle.std.specs.Prelude.{Some, None, Option}
 use mathlib.Core.Bool.{true}
 use mathlib.Core.List.{List, ◌++◌}
 use mathlib.Core.Logic.{◌⊎◌, inl, inr}
@@ -6,7 +7,7 @@ use mathlib.Core.Path.{◌≡◌, refl, sym, ap, ◌∙◌}
 use Prim.Native.Nat.{ℕ, zero, suc, ◌+◌, ◌-◌, ◌≤◌, ◌<◌}
 use native.Mathlib.Omega.{arith}
 use lib.ListN.{length, length-append}
-use Rattle.containers.specs.Layouts.{Container}
+use Rattle.containers.specs.Layouts.{HeadThere}
 use Rattle.enclosing.proofs.FrameLaws.{frame_length, put_framed}
 use Rattle.enclosing.specs.Frames.{frame_head, place_of}
 use Rattle.forms.specs.WellFormed.{all_members, well_formed_by, well_formed, names_there, field_names_there}
@@ -30,8 +31,6 @@ use Rattle.paper.specs.declared.Reading.TheVariants.{ObjectHead}
 use Rattle.paper.specs.declared.Reading.{Reading}
 use Rattle.putting.proofs.PutLaws.{put_join, told_here, told_full, told_length, told_room}
 use Rattle.putting.specs.Put.{Room, PutAs, full}
-use Rattle.putting.specs.declared.Put.TheVariants.{At, Full}
-use Rattle.putting.specs.declared.Put.{Put}
 use Rattle.remainder.specs.Remainder.{rest_bytes, RestReady}
 use Rattle.cutting.specs.Cutting.{ObjectReady, object_cut, FieldsReady, fields_cut}
 use Rattle.cutting.proofs.NodeLaws.{put_left}
@@ -59,7 +58,7 @@ rest_bytes_lem names no_fields t = refl
 rest_bytes_lem names (field name d fs) t = refl
 
 -- What was put leaves room for a head in front of it.
-asked : (tag : ℕ) {bytes before after : List ℕ} {start end : ℕ} {q : Put} → Room before 0 end → length before ≤ most_row → PutAs bytes before after 0 end q → q ≡ At start
+asked : (tag : ℕ) {bytes before after : List ℕ} {start end : ℕ} {q : Option ℕ} → Room before 0 end → length before ≤ most_row → PutAs bytes before after 0 end q → q ≡ Some start
     → tag < 256 → Room after 0 start × (start ≤ end) × (end ≤ length after) × (length after ≤ most_row) × (tag < 256)
 asked tag room short done here small =
     let size = (told_here done here).1.size in
@@ -73,7 +72,7 @@ module _ {levels : ℕ} {ranks schema table : List ℕ} {from to : ℕ} {s : Lis
   object_first = let valued = ready.valued in rw valued.is (omega (arith, value_there ready.names valued.d))
 
   module _ {r : Reading} (told : r ≡ reading_of (at s 0)) where
-    pub put-no_object : ((counted id width : ℕ) → r ≡ ObjectHead counted id width → ⊥) → {before after : List ℕ} {end : ℕ} {q : Put}
+    pub put-no_object : ((counted id width : ℕ) → r ≡ ObjectHead counted id width → ⊥) → {before after : List ℕ} {end : ℕ} {q : Option ℕ}
         → PutAs (place_of 0x41 s) before after 0 end q → PutAs (object_cut ready) before after 0 end q
     put-no_object other done =
         let valued = ready.valued in
@@ -88,7 +87,7 @@ module _ {levels : ℕ} {ranks schema table : List ℕ} {from to : ℕ} {s : Lis
           let few = ready.ground.few in
           object_opens ready.names valued.depth valued.d s valued.good valued.is told (omega arith) (omega arith) valued.there counted id width says
 
-      pub object_container : Container s counted id width
+      pub object_container : HeadThere s counted id width
       object_container = opened.container
 
       inside : (depth : ℕ) → (d : Doc) → d ≡ object opened.fs → well_formed depth d ≡ true → names_there ready.names d ≡ true
@@ -168,28 +167,28 @@ module _ {levels : ℕ} {ranks schema table : List ℕ} {from to : ℕ} {s : Lis
               ∙ ap (λ (n : ℕ). 3 + n) (length-append left (frame 0x42 places) ∙ ap (λ (n : ℕ). length left + n) (frame_length 0x42 places))
 
           -- A part that does not fit: nor does the whole.
-          pub places_full : {before after : List ℕ} {end : ℕ} {q : Put} → PutAs places before after 0 end q → q ≡ Full → PutAs (object_cut ready) before after 0 end Full
+          pub places_full : {before after : List ℕ} {end : ℕ} {q : Option ℕ} → PutAs places before after 0 end q → q ≡ None → PutAs (object_cut ready) before after 0 end None
           places_full done e =
               let short = told_full done e in
               let long = object_long in
               full (omega arith)
 
-          module _ {before middle : List ℕ} {start end : ℕ} {q : Put} (fits : end ≤ length before) (done : PutAs places before middle 0 end q) (here : q ≡ At start) where
-            typed_put : {after : List ℕ} {p : Put} → PutAs (frame_head 0x42 (end - start)) middle after 0 start p → PutAs (frame 0x42 places) before after 0 end p
+          module _ {before middle : List ℕ} {start end : ℕ} {q : Option ℕ} (fits : end ≤ length before) (done : PutAs places before middle 0 end q) (here : q ≡ Some start) where
+            typed_put : {after : List ℕ} {p : Option ℕ} → PutAs (frame_head 0x42 (end - start)) middle after 0 start p → PutAs (frame 0x42 places) before after 0 end p
             typed_put head = put_framed 0x42 places fits (told_here done here).1 head
 
-            pub typed_full : {after : List ℕ} {p : Put} → PutAs (frame_head 0x42 (end - start)) middle after 0 start p → p ≡ Full → PutAs (object_cut ready) before after 0 end Full
+            pub typed_full : {after : List ℕ} {p : Option ℕ} → PutAs (frame_head 0x42 (end - start)) middle after 0 start p → p ≡ None → PutAs (object_cut ready) before after 0 end None
             typed_full head e =
                 let short = told_full (typed_put head) e in
                 let long = object_long in
                 let inside = frame_length 0x42 places in
                 full (omega arith)
 
-            module _ {more : List ℕ} {typed : ℕ} {p : Put} (head : PutAs (frame_head 0x42 (end - start)) middle more 0 start p) (at_Typed : p ≡ At typed) where
-              left_put : {after : List ℕ} {o : Put} → PutAs left more after 0 typed o → PutAs (left ++ frame 0x42 places) before after 0 end o
+            module _ {more : List ℕ} {typed : ℕ} {p : Option ℕ} (head : PutAs (frame_head 0x42 (end - start)) middle more 0 start p) (at_Typed : p ≡ Some typed) where
+              left_put : {after : List ℕ} {o : Option ℕ} → PutAs left more after 0 typed o → PutAs (left ++ frame 0x42 places) before after 0 end o
               left_put done-left = put_join fits (told_here (typed_put head) at_Typed).1 done-left
 
-              pub left_full : {after : List ℕ} {o : Put} → PutAs left more after 0 typed o → o ≡ Full → PutAs (object_cut ready) before after 0 end Full
+              pub left_full : {after : List ℕ} {o : Option ℕ} → PutAs left more after 0 typed o → o ≡ None → PutAs (object_cut ready) before after 0 end None
               left_full done-left e =
                   let short = told_full (left_put done-left) e in
                   let long = object_long in
@@ -197,22 +196,22 @@ module _ {levels : ℕ} {ranks schema table : List ℕ} {from to : ℕ} {s : Lis
                   let inside = frame_length 0x42 places in
                   full (omega arith)
 
-              pub object_put : {last after : List ℕ} {first : ℕ} {o u : Put} → PutAs left more last 0 typed o → o ≡ At first
+              pub object_put : {last after : List ℕ} {first : ℕ} {o u : Option ℕ} → PutAs left more last 0 typed o → o ≡ Some first
                   → PutAs (frame_head 0x50 (end - first)) last after 0 first u → PutAs (object_cut ready) before after 0 end u
               object_put done-left at_first outer =
                   rw object_is (put_framed 0x50 (left ++ frame 0x42 places) fits (told_here (left_put done-left) at_first).1 outer)
 
           -- ---- what the calls ask of the room
 
-          pub places_asked : {before middle : List ℕ} {start end : ℕ} {q : Put} → Room before 0 end → length before ≤ most_row → PutAs places before middle 0 end q
-              → q ≡ At start → Room middle 0 start × (start ≤ end) × (end ≤ length middle) × (length middle ≤ most_row) × (0x42 < 256)
+          pub places_asked : {before middle : List ℕ} {start end : ℕ} {q : Option ℕ} → Room before 0 end → length before ≤ most_row → PutAs places before middle 0 end q
+              → q ≡ Some start → Room middle 0 start × (start ≤ end) × (end ≤ length middle) × (length middle ≤ most_row) × (0x42 < 256)
           places_asked room short done here = asked 0x42 room short done here (omega arith)
 
-          module _ {before middle : List ℕ} {start end : ℕ} {q : Put} (room : Room before 0 end) (short : length before ≤ most_row) (done : PutAs places before middle 0 end q)
-              (here : q ≡ At start) {more : List ℕ} {typed : ℕ} {p : Put} (head : PutAs (frame_head 0x42 (end - start)) middle more 0 start p) (at_Typed : p ≡ At typed) where
+          module _ {before middle : List ℕ} {start end : ℕ} {q : Option ℕ} (room : Room before 0 end) (short : length before ≤ most_row) (done : PutAs places before middle 0 end q)
+              (here : q ≡ Some start) {more : List ℕ} {typed : ℕ} {p : Option ℕ} (head : PutAs (frame_head 0x42 (end - start)) middle more 0 start p) (at_Typed : p ≡ Some typed) where
             pub typed_asked : Room more 0 typed × (length more ≤ most_row)
             typed_asked = let all = asked 0x42 room short (typed_put room.within done here head) at_Typed (omega arith) in (all.0, all.3)
 
-            pub left_asked : {last : List ℕ} {first : ℕ} {o : Put} → PutAs left more last 0 typed o → o ≡ At first
+            pub left_asked : {last : List ℕ} {first : ℕ} {o : Option ℕ} → PutAs left more last 0 typed o → o ≡ Some first
                 → Room last 0 first × (first ≤ end) × (end ≤ length last) × (length last ≤ most_row) × (0x50 < 256)
             left_asked done-left at_first = asked 0x50 room short (left_put room.within done here head at_Typed done-left) at_first (omega arith)

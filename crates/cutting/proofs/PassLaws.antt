@@ -1,4 +1,5 @@
 -- Members passed over by their ids, and the member of a field.
+use Rattle.std.specs.Prelude.{Some, None, Option}
 use mathlib.Core.Bool.{Bool, true, false}
 use mathlib.Core.List.{List}
 use mathlib.Core.Path.{◌≡◌, refl}
@@ -7,8 +8,6 @@ use native.Mathlib.Omega.{arith}
 use borrow.Author.Tests.{lt-ltb, le-ltb, ltb-true, ltb-false}
 use lib.Dec.{ltb, eqb}
 use Rattle.dictionary.specs.declared.ids.InputId.{InputId}
-use Rattle.lookup.specs.declared.Looked.TheVariants.{At, Nowhere}
-use Rattle.lookup.specs.declared.Looked.{Looked}
 use Rattle.members.specs.Members.{IdThere, member_id}
 use Rattle.members.specs.declared.Members.{Members}
 use Rattle.cutting.specs.Cutting.{Run, Passed, PassedBy, up_to, none, is_member}
@@ -49,27 +48,27 @@ module _ {s : List ℕ} {m : Members} {from : ℕ} (run : Run s m from) where
 
 -- ---- by what the table tells
 
-module _ {s : List ℕ} {m : Members} {from : ℕ} {looked told : Looked} (is : told ≡ looked) where
-  pub passed_to : {id : InputId} → told ≡ At id → {bound to : ℕ} → bound ≡ id.0 → Passed s m from bound to → PassedBy s m from looked to
+module _ {s : List ℕ} {m : Members} {from : ℕ} {looked told : Option InputId} (is : told ≡ looked) where
+  pub passed_to : {id : InputId} → told ≡ Some id → {bound to : ℕ} → bound ≡ id.0 → Passed s m from bound to → PassedBy s m from looked to
   passed_to {id} e {bound} {to} same passed = rw (← is, e) (up_to id to (rw same at passed))
 
-  pub passed_none : told ≡ Nowhere → PassedBy s m from looked from
+  pub passed_none : told ≡ None → PassedBy s m from looked from
   passed_none e = rw (← is, e) none
 
 pub run_there : (s : List ℕ) (m : Members) (k : ℕ) → Run s m k → k < m.count → IdThere s m k
 run_there s m k run below = run.there k (omega arith) below
 
 module _ (s : List ℕ) (m : Members) (k : ℕ) where
-  pub past_last : m.count ≤ k → (looked : Looked) → false ≡ is_member s m k looked
+  pub past_last : m.count ≤ k → (looked : Option InputId) → false ≡ is_member s m k looked
   unfolding is_member
-  past_last over (At id) = rw (le-ltb k m.count over)
-  past_last over Nowhere = refl
+  past_last over (Some id) = rw (le-ltb k m.count over)
+  past_last over None = refl
 
-  module _ {looked told : Looked} (is : told ≡ looked) where
-    pub member_by_id : k < m.count → {id : InputId} → told ≡ At id → (n : ℕ) → n ≡ member_id s m k → eqb id.0 n ≡ is_member s m k looked
+  module _ {looked told : Option InputId} (is : told ≡ looked) where
+    pub member_by_id : k < m.count → {id : InputId} → told ≡ Some id → (n : ℕ) → n ≡ member_id s m k → eqb id.0 n ≡ is_member s m k looked
     unfolding is_member
     member_by_id below e n same = rw (← is, e, lt-ltb k m.count below, same)
 
-    pub member_of_none : told ≡ Nowhere → false ≡ is_member s m k looked
+    pub member_of_none : told ≡ None → false ≡ is_member s m k looked
     unfolding is_member
     member_of_none e = rw (← is, e)

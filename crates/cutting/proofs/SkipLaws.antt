@@ -1,15 +1,14 @@
 -- An object's fields from one on: what holds of all holds of them, and fields that no column names leave what is cut as it is.
+use Rattle.std.specs.Prelude.{None, Some}
 use mathlib.Core.Bool.{Bool, true, false}
 use mathlib.Core.List.{List, ◌∷◌}
 use mathlib.Core.Logic.{◌⊎◌, inl, inr}
-use mathlib.Core.Option.{none}
 use mathlib.Core.Path.{◌≡◌, refl, sym, ◌∙◌}
 use Prim.Native.Nat.{ℕ, zero, suc, ◌+◌, ◌≤◌, ◌<◌}
 use native.Mathlib.Omega.{arith}
 use Rattle.dictionary.specs.declared.ids.InputId.{InputId}
 use Rattle.forms.specs.WellFormed.{all_members, names_there, field_names_there}
 use Rattle.lookup.specs.Looking.{Tells, found}
-use Rattle.lookup.specs.declared.Looked.TheVariants.{At}
 use Rattle.members.specs.Members.{IdThere, member_id, From, ended, further}
 use Rattle.members.specs.declared.Members.{Members}
 use Rattle.names.proofs.IdLaws.{id_place, id_rises}
@@ -85,7 +84,7 @@ abbrev pub Above : Dictionary → ℕ → List (List ℕ) → Type 0
 Above names bound columns = (name : List ℕ) → among name columns ≡ true → among name names ≡ true → bound ≤ id_of names name
 
 -- The first column's id is such a bound.
-pub first_above : (names : Dictionary) (id : InputId) (name : List ℕ) (more : List (List ℕ)) → rising names ≡ true → Tells names name (At id)
+pub first_above : (names : Dictionary) (id : InputId) (name : List ℕ) (more : List (List ℕ)) → rising names ≡ true → Tells names name (Some id)
     → rising (name ∷ more) ≡ true → (id_of names name ≡ id.0) × Above names id.0 (name ∷ more)
 first_above names id name more names_rise (found _ below is) rise =
     let own : id_of names name ≡ id.0 = rw is at (id_place names id.0 names_rise below) in
@@ -133,7 +132,7 @@ module _ {names : Dictionary} {s : List ℕ} {m : Members} (bound : ℕ) (column
 -- ---- the field of a name
 
 -- A name that is not in the dictionary is none of a document's.
-pub unknown_missing : (names : Dictionary) (name : List ℕ) (fs : Fields) → field_names_there names fs ≡ true → among name names ≡ false → field_at name fs ≡ none
+pub unknown_missing : (names : Dictionary) (name : List ℕ) (fs : Fields) → field_names_there names fs ≡ true → among name names ≡ false → field_at name fs ≡ None
 unfolding field_names_there field_at
 unknown_missing names name no_fields there unknown = refl
 unknown_missing names name (field first d fs) there unknown =
@@ -147,7 +146,7 @@ unknown_missing names name (field first d fs) there unknown =
 
 -- Nor is one whose id is below that of the first.
 pub lower_missing : (names : Dictionary) (name : List ℕ) (fs : Fields) → rising names ≡ true → rising (field_names fs) ≡ true → field_names_there names fs ≡ true
-    → ((first : List ℕ) (d : Doc) (more : Fields) → fs ≡ field first d more → id_of names name < id_of names first) → field_at name fs ≡ none
+    → ((first : List ℕ) (d : Doc) (more : Fields) → fs ≡ field first d more → id_of names name < id_of names first) → field_at name fs ≡ None
 unfolding field_names_there field_at field_names
 lower_missing names name no_fields names_rise rise there lower = refl
 lower_missing names name (field first d fs) names_rise rise there lower =

@@ -1,11 +1,9 @@
 -- What the writers of a row stand on: a document's normal value under a dictionary, a node of a good schema, and the table that
 -- tells of its fields. Each writer's answer is told of every such reading of its bytes.
-use Rattle.std.specs.Prelude.{Bool, true, false, ◌&&◌, List, [], ◌++◌, ◌≡◌, ℕ, ◌≤◌, ◌<◌, ltb, eqb, length}
+use Rattle.std.specs.Prelude.{Bool, true, false, ◌&&◌, List, [], ◌++◌, ◌≡◌, ℕ, ◌≤◌, ◌<◌, ltb, eqb, length, Option, Some, None}
 use Rattle.dictionary.specs.declared.ids.InputId.{InputId}
 use Rattle.fields.specs.Telling.{Told, FieldsTold}
 use Rattle.forms.specs.WellFormed.{all_members, well_formed, names_there, field_names_there}
-use Rattle.lookup.specs.declared.Looked.{Looked}
-use Rattle.lookup.specs.declared.Looked.TheVariants.{At, Nowhere}
 use Rattle.members.specs.Members.{IdThere, member_id, From}
 use Rattle.members.specs.declared.Members.{Members}
 use Rattle.paper.specs.Framing.{frame}
@@ -104,14 +102,14 @@ pub record Passed (s : List ℕ) (m : Members) (from bound to : ℕ) : Type 0 wh
   pub stops : to < m.count → bound ≤ member_id s m to
 
 -- By what a table tells of a field: up to its id, and none if it has no id.
-pub data PassedBy (s : List ℕ) (m : Members) (from : ℕ) : Looked → (to : ℕ) → Type 0 where
-  up_to : (id : InputId) (to : ℕ) → Passed s m from id.0 to → PassedBy s m from (At id) to
-  none : PassedBy s m from Nowhere from
+pub data PassedBy (s : List ℕ) (m : Members) (from : ℕ) : Option InputId → (to : ℕ) → Type 0 where
+  up_to : (id : InputId) (to : ℕ) → Passed s m from id.0 to → PassedBy s m from (Some id) to
+  none : PassedBy s m from None from
 
 -- A member is a field's, by what the table tells of the field.
-unfoldable pub is_member : List ℕ → Members → (k : ℕ) → Looked → Bool
-is_member s m k (At id) = ltb k m.count && eqb id.0 (member_id s m k)
-is_member s m k Nowhere = false
+unfoldable pub is_member : List ℕ → Members → (k : ℕ) → Option InputId → Bool
+is_member s m k (Some id) = ltb k m.count && eqb id.0 (member_id s m k)
+is_member s m k None = false
 
 -- ---- fields that are all missing
 

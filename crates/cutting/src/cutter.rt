@@ -1,69 +1,49 @@
 // A value cut along a node. The place writer and the writers of a list and of an object call each other, the levels left falling;
 // an object's places are written last field first, each call having those behind its field written before its own.
 ghost use Rattle.std.specs.Prelude.{◌≤◌, length};
-ghost use Rattle.heads.specs.Packing.{Readings};
 ghost use Rattle.paper.specs.Limits.{most_row};
 ghost use Rattle.putting.specs.Put.{Room, PutAs};
 ghost use Rattle.cutting.specs.Cutting.{PlaceReady, place_cut, ListReady, list_cut, ObjectReady, object_cut, FieldsReady, fields_cut};
 
 use crate::missing::missing;
 use crate::passing::{is_member, member_from};
+use heads::Readings;
 use members::{Members, members_of, part_at};
 use paper::Reading;
-use putting::Put;
 use schemas::Kind;
+
+// What stays the same in a document that is cut: the readings of first bytes, each id's normal id, the schema, and the table
+// that tells of its fields.
+#[derive(Drop)]
+pub struct Basis<'a> {
+    pub readings: &'a Readings,
+    pub ranks: &'a [u16],
+    pub schema: &'a [u8],
+    pub table: &'a [u16],
+}
 
 // A value under a node.
 #[cycle(fields_list_place_object_place_place)]
 pub fn place(
+    basis: &Basis,
     levels: usize,
-    readings: &[u8],
-    ranks: &[u16],
-    schema: &[u8],
-    table: &[u16],
     node: usize,
     s: &[u8],
     notes: &mut [u16],
     ids: &mut [u8],
     out: &mut [u8],
     end: usize,
-) -> Put
-    requires { Readings readings.now × Room out.old 0 end × (length out.old ≤ most_row) × PlaceReady levels ranks.now schema.now table.now node s.now (length notes.old) (length ids.old) }
-    ensures { (ready : PlaceReady levels ranks.now schema.now table.now node s.now (length notes.old) (length ids.old)) → PutAs (place_cut ready) out.old out.new 0 end result }
+) -> Option<usize>
+    requires { Room out.old 0 end × (length out.old ≤ most_row) × PlaceReady levels basis.now.ranks.now basis.now.schema.now basis.now.table.now node s.now (length notes.old) (length ids.old) }
+    ensures { (ready : PlaceReady levels basis.now.ranks.now basis.now.schema.now basis.now.table.now node s.now (length notes.old) (length ids.old)) → PutAs (place_cut ready) out.old out.new 0 end result }
 {
-    let kind = schemas::kind_at(schema, node);
-    match kind {
+    match schemas::kind_at(basis.schema, node) {
         Kind::Leftover => enclosing::place(0x41, s, out, end),
-        Kind::Column(code) => enclosing::column(readings, code, s, out, end),
-        Kind::List => list_place(
-            levels - 1,
-            readings,
-            ranks,
-            schema,
-            table,
-            node + 3,
-            s,
-            notes,
-            ids,
-            out,
-            end,
-        ),
+        Kind::Column(code) => enclosing::column(basis.readings, code, s, out, end),
+        Kind::List => list_place(basis, levels - 1, node + 3, s, notes, ids, out, end),
         Kind::Fields => {
-            let to = schemas::frame_end(schema, node);
-            object_place(
-                levels - 1,
-                readings,
-                ranks,
-                schema,
-                table,
-                node + 3,
-                to,
-                s,
-                notes,
-                ids,
-                out,
-                end,
-            )
+            let to = schemas::frame_end(basis.schema, node);
+            object_place(basis, levels - 1, node + 3, to, s, notes, ids, out, end)
         }
     }
 }
@@ -71,47 +51,26 @@ pub fn place(
 // A value under a list's node: an array's elements, last to first, and then the heads; another value is a leftover.
 #[cycle(fields_list_place_object_place_place)]
 fn list_place(
+    basis: &Basis,
     levels: usize,
-    readings: &[u8],
-    ranks: &[u16],
-    schema: &[u8],
-    table: &[u16],
     node: usize,
     s: &[u8],
     notes: &mut [u16],
     ids: &mut [u8],
     out: &mut [u8],
     end: usize,
-) -> Put
-    requires { Readings readings.now × Room out.old 0 end × (length out.old ≤ most_row) × ListReady levels ranks.now schema.now table.now node s.now (length notes.old) (length ids.old) }
-    ensures { (ready : ListReady levels ranks.now schema.now table.now node s.now (length notes.old) (length ids.old)) → PutAs (list_cut ready) out.old out.new 0 end result }
+) -> Option<usize>
+    requires { Room out.old 0 end × (length out.old ≤ most_row) × ListReady levels basis.now.ranks.now basis.now.schema.now basis.now.table.now node s.now (length notes.old) (length ids.old) }
+    ensures { (ready : ListReady levels basis.now.ranks.now basis.now.schema.now basis.now.table.now node s.now (length notes.old) (length ids.old)) → PutAs (list_cut ready) out.old out.new 0 end result }
 {
-    let says = heads::reading_by(readings, s[0]);
-    let Reading::ArrayHead { count, offset } = says else {
+    let Reading::ArrayHead { count, offset } = basis.readings.of(s[0]) else {
         return enclosing::place(0x41, s, out, end);
     };
     let members = members_of(s, count, 0, offset);
     let mut start = end;
-    let mut i = members.count;
-    while 0 < i {
-        i -= 1;
-        let one = place(
-            levels,
-            readings,
-            ranks,
-            schema,
-            table,
-            node,
-            part_at(s, members, i),
-            notes,
-            ids,
-            out,
-            start,
-        );
-        let Put::At(next) = one else {
-            return Put::Full;
-        };
-        start = next;
+    for i in (0..members.count).rev() {
+        let element = part_at(s, members, i);
+        start = place(basis, levels, node, element, notes, ids, out, start)?;
     }
     enclosing::enclosed(0x42, out, start, end)
 }
@@ -120,11 +79,8 @@ fn list_place(
 // heads; another value is a leftover.
 #[cycle(fields_list_place_object_place_place)]
 fn object_place(
+    basis: &Basis,
     levels: usize,
-    readings: &[u8],
-    ranks: &[u16],
-    schema: &[u8],
-    table: &[u16],
     from: usize,
     to: usize,
     s: &[u8],
@@ -132,41 +88,38 @@ fn object_place(
     ids: &mut [u8],
     out: &mut [u8],
     end: usize,
-) -> Put
-    requires { Readings readings.now × Room out.old 0 end × (length out.old ≤ most_row) × ObjectReady levels ranks.now schema.now table.now from to s.now (length notes.old) (length ids.old) }
-    ensures { (ready : ObjectReady levels ranks.now schema.now table.now from to s.now (length notes.old) (length ids.old)) → PutAs (object_cut ready) out.old out.new 0 end result }
+) -> Option<usize>
+    requires { Room out.old 0 end × (length out.old ≤ most_row) × ObjectReady levels basis.now.ranks.now basis.now.schema.now basis.now.table.now from to s.now (length notes.old) (length ids.old) }
+    ensures { (ready : ObjectReady levels basis.now.ranks.now basis.now.schema.now basis.now.table.now from to s.now (length notes.old) (length ids.old)) → PutAs (object_cut ready) out.old out.new 0 end result }
 {
-    let says = heads::reading_by(readings, s[0]);
-    let Reading::ObjectHead { count, id, offset } = says else {
+    let Reading::ObjectHead { count, id, offset } = basis.readings.of(s[0]) else {
         return enclosing::place(0x41, s, out, end);
     };
     let members = members_of(s, count, id, offset);
-    let inner = fields(
-        levels, readings, ranks, schema, table, from, to, s, members, 0, notes, ids, out, end,
-    );
-    let Put::At(places) = inner else {
-        return Put::Full;
-    };
-    let Put::At(typed) = enclosing::head(0x42, out, places, end) else {
-        return Put::Full;
-    };
-    let left = remainder::rest(
-        readings, ranks, schema, table, from, to, s, members, notes, ids, out, typed,
-    );
-    let Put::At(start) = left else {
-        return Put::Full;
-    };
+    let places = fields(basis, levels, from, to, s, members, 0, notes, ids, out, end)?;
+    let typed = enclosing::head(0x42, out, places, end)?;
+    let start = remainder::rest(
+        basis.readings,
+        basis.ranks,
+        basis.schema,
+        basis.table,
+        from,
+        to,
+        s,
+        members,
+        notes,
+        ids,
+        out,
+        typed,
+    )?;
     enclosing::head(0x50, out, start, end)
 }
 
 // The places of the fields between two positions, from an object's members from one on.
 #[cycle(fields_list_place_object_place_place)]
 fn fields(
+    basis: &Basis,
     levels: usize,
-    readings: &[u8],
-    ranks: &[u16],
-    schema: &[u8],
-    table: &[u16],
     from: usize,
     to: usize,
     s: &[u8],
@@ -176,32 +129,26 @@ fn fields(
     ids: &mut [u8],
     out: &mut [u8],
     end: usize,
-) -> Put
-    requires { Readings readings.now × Room out.old 0 end × (length out.old ≤ most_row) × FieldsReady levels ranks.now schema.now table.now from to s.now members k (length notes.old) (length ids.old) }
-    ensures { (ready : FieldsReady levels ranks.now schema.now table.now from to s.now members k (length notes.old) (length ids.old)) → PutAs (fields_cut ready) out.old out.new 0 end result }
+) -> Option<usize>
+    requires { Room out.old 0 end × (length out.old ≤ most_row) × FieldsReady levels basis.now.ranks.now basis.now.schema.now basis.now.table.now from to s.now members k (length notes.old) (length ids.old) }
+    ensures { (ready : FieldsReady levels basis.now.ranks.now basis.now.schema.now basis.now.table.now from to s.now members k (length notes.old) (length ids.old)) → PutAs (fields_cut ready) out.old out.new 0 end result }
 {
     if from == to {
-        return Put::At(end);
+        return Some(end);
     }
     if members.count <= k {
-        return missing(schema, from, to, out, end);
+        return missing(basis.schema, from, to, out, end);
     }
-    let here = member_from(table, from, s, members, k);
-    let next = schemas::frame_end(schema, from);
-    let behind = fields(
-        levels, readings, ranks, schema, table, next, to, s, members, here, notes, ids, out, end,
-    );
-    let Put::At(start) = behind else {
-        return Put::Full;
-    };
-    if is_member(table, from, s, members, here) {
+    let here = member_from(basis.table, from, s, members, k);
+    let next = schemas::frame_end(basis.schema, from);
+    let start = fields(
+        basis, levels, next, to, s, members, here, notes, ids, out, end,
+    )?;
+    if is_member(basis.table, from, s, members, here) {
         return place(
+            basis,
             levels,
-            readings,
-            ranks,
-            schema,
-            table,
-            schemas::field_node(schema, from),
+            schemas::field_node(basis.schema, from),
             part_at(s, members, here),
             notes,
             ids,

@@ -8,4 +8,4 @@ mod cutter;
 mod missing;
 mod passing;
 
-pub use cutter::place;
+pub use cutter::{Basis, place};

@@ -4,7 +4,6 @@ ghost use Rattle.fields.specs.Telling.{entry_place, looked_at};
 ghost use Rattle.cutting.specs.Cutting.{Run, Passed, PassedBy, is_member};
 
 use fields::field_id;
-use lookup::Looked;
 use members::{Members, id_at};
 
 // The first member, from one on, whose id is not below another; so many if there is none.
@@ -12,14 +11,12 @@ fn not_below(s: &[u8], members: Members, from: usize, id: usize) -> usize
     requires { Run s.now members from }
     ensures { Passed s.now members from id result }
 {
-    let mut k = from;
-    while k < members.count {
+    for k in from..members.count {
         if id <= id_at(s, members, k).0 {
             return k;
         }
-        k += 1;
     }
-    k
+    members.count
 }
 
 // The first member, from one on, that may belong to the field at a position or to one behind it.
@@ -27,10 +24,9 @@ pub fn member_from(table: &[u16], field: usize, s: &[u8], members: Members, from
     requires { Run s.now members from × (entry_place field < length table.now) }
     ensures { PassedBy s.now members from (looked_at table.now field) result }
 {
-    let looked = field_id(table, field);
-    match looked {
-        Looked::At(id) => not_below(s, members, from, id.0),
-        Looked::Nowhere => from,
+    match field_id(table, field) {
+        Some(id) => not_below(s, members, from, id.0),
+        None => from,
     }
 }
 
@@ -42,9 +38,8 @@ pub fn is_member(table: &[u16], field: usize, s: &[u8], members: Members, k: usi
     if members.count <= k {
         return false;
     }
-    let looked = field_id(table, field);
-    match looked {
-        Looked::At(id) => id.0 == id_at(s, members, k).0,
-        Looked::Nowhere => false,
+    match field_id(table, field) {
+        Some(id) => id.0 == id_at(s, members, k).0,
+        None => false,
     }
 }

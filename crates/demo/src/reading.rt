@@ -1,9 +1,11 @@
-// Lines, words and hex digits.
+// The input, and the bytes that its words stand for.
 ghost use Rattle.std.specs.Prelude.{◌<◌, ◌≤◌, length, IfOk};
 
-use order::Order;
 use std::io;
 use std::io::Read;
+
+// A word stands for so many bytes at most; what lies behind is left out.
+pub const MOST_WORD: usize = 256;
 
 // Reads until the buffer is full or the input ends: how many bytes came.
 pub fn read_full(from: &mut impl Read, out: &mut [u8]) -> io::Result<usize>
@@ -20,47 +22,12 @@ pub fn read_full(from: &mut impl Read, out: &mut [u8]) -> io::Result<usize>
     Ok(done)
 }
 
-// The first place from `from` on where a mark stands; the end if there is none.
-pub fn upto(text: &[u8], from: usize, mark: u8) -> usize
-    requires { from ≤ length text.now }
-    ensures { (from ≤ result) × (result ≤ length text.now) }
-{
-    for at in from..text.len() {
-        if text[at] == mark {
-            return at;
-        }
-    }
-    text.len()
-}
-
-// Where a line's word begins, the words being counted from 0; the end if it has none of that number.
-fn start_of(line: &[u8], number: usize) -> usize
-    ensures { result ≤ length line.now }
-{
-    let mut at = 0;
-    for _ in 0..number {
-        let end = upto(line, at, b' ');
-        if end == line.len() {
-            return end;
-        }
-        at = end + 1;
-    }
-    at
-}
-
-// Whether two runs of bytes are the same.
-pub fn same(a: &[u8], b: &[u8]) -> bool {
-    let order = order::compare(a, b);
-    match order {
-        Order::Equal => true,
-        Order::Less | Order::Greater => false,
-    }
-}
-
-// Whether a line begins with a word.
-pub fn begins(line: &[u8], word: &[u8]) -> bool {
-    let end = upto(line, 0, b' ');
-    same(&line[..end], word)
+// The bytes that a word stands for.
+#[derive(Drop)]
+pub struct Word {
+    bytes: [u8; MOST_WORD],
+    size: usize,
+    ghost held: { size ≤ 256 },
 }
 
 // What a hex digit, 0 to 9 or a to f, stands for.
@@ -73,50 +40,36 @@ fn digit(c: u8) -> u8
     (c % 16 + 9) % 16
 }
 
-// Reads hex digits into a buffer, as far as it has room: how many bytes they made.
-fn read_hex(digits: &[u8], out: &mut [u8]) -> usize
-    ensures { result ≤ length out.new }
-{
-    let mut n = 0;
-    let mut at = 0;
-    while n < out.len() {
-        if digits.len() - at < 2 {
-            return n;
+impl Word {
+    // Reads hex digits, two to a byte.
+    pub fn read(digits: &[u8]) -> Word {
+        let pairs = digits.as_chunks::<2>().0;
+        let mut bytes = [0; MOST_WORD];
+        for (byte, [high, low]) in bytes.iter_mut().zip(pairs) {
+            *byte = 16 * digit(*high) + digit(*low);
         }
-        out[n] = 16 * digit(digits[at]) + digit(digits[at + 1]);
-        n += 1;
-        at += 2;
+        let size = pairs.len().min(MOST_WORD);
+        Word { bytes, size }
     }
-    n
-}
 
-// Reads a line's word into a buffer: how many bytes it has.
-pub fn word(line: &[u8], number: usize, out: &mut [u8]) -> usize
-    ensures { result ≤ length out.new }
-{
-    let start = start_of(line, number);
-    let end = upto(line, start, b' ');
-    read_hex(&line[start..end], out)
+    pub fn bytes(&self) -> &[u8] {
+        &self.bytes[..self.size]
+    }
 }
 
 // A byte as the length of a part of a buffer; 0 if the byte is not there.
-pub fn room(bytes: &[u8], place: usize, out: &[u8]) -> usize
-    ensures { result ≤ length out.now }
+pub fn room(bytes: &[u8], place: usize) -> usize
+    ensures { result ≤ 256 }
 {
-    if bytes.len() <= place {
-        return 0;
-    }
-    numbers::wide(bytes[place]).min(out.len())
+    bytes.get(place).map_or(0, |byte| usize::from(*byte))
 }
 
-// The bytes from a place on, so many, as far as there are any.
-pub fn piece(s: &[u8], from: usize, size: usize) -> &[u8] {
-    if s.len() <= from {
-        return &s[..0];
-    }
-    if s.len() - from < size {
-        return &s[from..];
-    }
-    let to = from + size;
-    &s[from..to]
+// So many bytes at the front, as far as there are any.
+pub fn front(s: &[u8], size: usize) -> &[u8] {
+    &s[..size.min(s.len())]
+}
+
+// The bytes from a place on.
+pub fn behind(s: &[u8], from: usize) -> &[u8] {
+    &s[from.min(s.len())..]
 }

@@ -1,105 +1,71 @@
 // A row shown field by field, as its frames have it. What does not fit is shown as far as it goes: the register judges, not this.
-ghost use Rattle.std.specs.Prelude.{◌<◌, ◌≤◌, length};
+ghost use Rattle.std.specs.Prelude.{◌<◌, length};
 
 use crate::saying;
-use paper::CellAnswer;
 use std::io;
 use std::io::Write;
 
-// Where the frame at a place ends: behind its tag, its two-byte length and that many bytes, or where the bytes end.
-pub fn frame_end(s: &[u8], at: usize) -> usize
-    requires { at ≤ length s.now }
-    ensures { (at ≤ result) × (result ≤ length s.now) }
+// The body of the frame at the front of some bytes, and what stands behind it. A frame is a tag, a two-byte length and that
+// many bytes; one that does not fit ends where the bytes end.
+fn frame(s: &[u8]) -> (&[u8], &[u8])
+    ensures { 0 < length s.now → length result.1.now < length s.now }
 {
-    if s.len() - at < 3 {
-        return s.len();
+    let [_, low, high, rest @ ..] = s else {
+        return (&[], &[]);
+    };
+    let size = usize::from(u16::from_le_bytes([*low, *high]));
+    if rest.len() < size {
+        return (rest, &[]);
     }
-    let body = at + 3;
-    let size = numbers::read(s, at + 1, 2);
-    if s.len() - body < size {
-        return s.len();
-    }
-    body + size
-}
-
-// Where the next frame starts.
-fn next_frame(s: &[u8], at: usize) -> usize
-    requires { at < length s.now }
-    ensures { (at < result) × (result ≤ length s.now) }
-{
-    let end = frame_end(s, at);
-    if at < end {
-        return end;
-    }
-    s.len()
-}
-
-// The body of the frame at a place.
-pub fn body(s: &[u8], at: usize) -> &[u8]
-    requires { at ≤ length s.now }
-{
-    let end = frame_end(s, at);
-    if end - at < 3 {
-        return &s[end..end];
-    }
-    let from = at + 3;
-    &s[from..end]
-}
-
-// A tag stands at the front of some bytes.
-fn begins(s: &[u8], tag: u8) -> bool {
-    if s.is_empty() {
-        return false;
-    }
-    s[0] == tag
+    rest.split_at(size)
 }
 
 // One typed cell under a column's code.
 pub fn cell(out: &mut impl Write, code: u8, bytes: &[u8]) -> io::Result<()> {
     match register::cell(code, bytes) {
-        CellAnswer::Read(read) => saying::cell(out, read),
-        CellAnswer::Refused(refusal) => saying::refused(out, refusal),
+        Ok(read) => saying::cell(out, read),
+        Err(refusal) => saying::refused(out, refusal),
     }
 }
 
 // What is typed under a node: a column's cell by its kind, else the bytes.
 fn typed(out: &mut impl Write, node: &[u8], bytes: &[u8]) -> io::Result<()> {
-    saying::say(out, b", typed")?;
-    if node.len() == 4 {
-        return cell(out, node[3], bytes);
+    write!(out, ", typed")?;
+    match node {
+        [_, _, _, code] => cell(out, *code, bytes),
+        _ => saying::bytes(out, bytes),
     }
-    saying::bytes(out, bytes)
 }
 
 // A place under a node: missing, left over, typed, or both.
 fn place(out: &mut impl Write, node: &[u8], held: &[u8]) -> io::Result<()> {
     if held.is_empty() {
-        return saying::say(out, b", missing");
+        return write!(out, ", missing");
     }
-    if begins(held, 0x42) {
-        return typed(out, node, body(held, 0));
+    let (first, behind) = frame(held);
+    if let [0x42, ..] = held {
+        return typed(out, node, first);
     }
-    saying::say(out, b", left over")?;
-    saying::bytes(out, body(held, 0))?;
-    let next = frame_end(held, 0);
-    if next < held.len() {
-        typed(out, node, body(held, next))?;
+    write!(out, ", left over")?;
+    saying::bytes(out, first)?;
+    if behind.is_empty() {
+        return Ok(());
     }
-    Ok(())
+    typed(out, node, frame(behind).0)
 }
 
 // The fields of an object's node, each by its name, and its place among the typed places.
-fn fields(out: &mut impl Write, columns: &[u8], places: &[u8]) -> io::Result<()> {
-    let mut field = 0;
-    let mut at = 0;
-    while field < columns.len() {
-        let column = body(columns, field);
-        let node = frame_end(column, 0);
-        saying::say(out, b"\n    ")?;
-        saying::say(out, body(column, 0))?;
-        place(out, &column[node..], body(places, at))?;
-        field = next_frame(columns, field);
-        at = frame_end(places, at);
+fn fields(out: &mut impl Write, mut columns: &[u8], mut places: &[u8]) -> io::Result<()> {
+    // Frames are of many lengths, so their places are no range.
+    while !columns.is_empty() {
+        let (column, other_columns) = frame(columns);
+        let (held, other_places) = frame(places);
+        let (name, node) = frame(column);
+        write!(out, "\n    ")?;
+        out.write_all(name)?;
+        place(out, node, held)?;
+        columns = other_columns;
+        places = other_places;
     }
     Ok(())
 }
@@ -107,18 +73,20 @@ fn fields(out: &mut impl Write, columns: &[u8], places: &[u8]) -> io::Result<()>
 // What stands in a row: its metadata, and its outermost place; under an object's node what is left over, and field by field what is
 // typed.
 pub fn row(out: &mut impl Write, schema: &[u8], bytes: &[u8]) -> io::Result<()> {
-    saying::say(out, b"\n    metadata")?;
-    saying::bytes(out, body(bytes, 0))?;
-    let outermost = body(bytes, frame_end(bytes, 0));
-    if !begins(schema, 0x30) {
-        saying::say(out, b"\n    the place")?;
+    let (metadata, behind) = frame(bytes);
+    write!(out, "\n    metadata")?;
+    saying::bytes(out, metadata)?;
+    let outermost = frame(behind).0;
+    let [0x30, ..] = schema else {
+        write!(out, "\n    the place")?;
         return place(out, schema, outermost);
-    }
-    if begins(outermost, 0x41) {
-        saying::say(out, b"\n    left over")?;
-        saying::bytes(out, body(outermost, 0))?;
-        let at = frame_end(outermost, 0);
-        return fields(out, body(schema, 0), body(outermost, at));
-    }
-    fields(out, body(schema, 0), body(outermost, 0))
+    };
+    let columns = frame(schema).0;
+    let (first, behind) = frame(outermost);
+    let [0x41, ..] = outermost else {
+        return fields(out, columns, first);
+    };
+    write!(out, "\n    left over")?;
+    saying::bytes(out, first)?;
+    fields(out, columns, frame(behind).0)
 }

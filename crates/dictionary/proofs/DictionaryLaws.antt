@@ -1,21 +1,22 @@
 -- Lawful metadata: its rules one by one, what was read of it, and its names.
+use Rattle.std.specs.Prelude.{Option, None, Some}
+use Rattle.std.proofs.lemmas.Option.{same_Some}
 use mathlib.Core.Bool.{Bool, true, false, cond, not, ◌&&◌, ◌||◌}
 use mathlib.Core.List.{List, []}
-use mathlib.Core.Option.{Option, none, some}
 use mathlib.Core.Path.{◌≡◌, refl, sym, ap, ◌∙◌}
-use Prim.Native.Nat.{ℕ, ◌+◌, ◌*◌, ◌≤◌, ◌<◌}
+use Prim.Native.Nat.{ℕ, ◌+◌, ◌*◌, ◌/◌, ◌%◌, ◌≤◌, ◌<◌}
 use native.Mathlib.Omega.{arith}
 use borrow.Author.Tests.{leb-true}
-use lib.Dec.{leb, ltb}
+use lib.Dec.{leb, ltb, eqb}
 use lib.ListN.{length, get_or, drop, length-drop}
 use Rattle.dictionary.specs.Judging.{lawful_names, judged_of, Opened}
-use Rattle.dictionary.specs.declared.Judged.TheVariants.{Good, Broken}
 use Rattle.dictionary.specs.declared.Names.{Names}
+use Rattle.numbers.specs.Little.{number_at}
 use Rattle.order.specs.Before.{before}
 use Rattle.paper.specs.Metadata.{Dictionary, header_good, flag_set, offset_size, rising, offsets_start, name_count, names_start, name_offsets, names_area, names_in, framed, offsets_good, dictionary_of}
 use Rattle.paper.specs.Words.{at, is_there, numbers}
 use Rattle.dictionary.proofs.ChainLaws.{rising_order}
-use Rattle.dictionary.proofs.NumbersRunLaws.{run_length}
+use Rattle.runs.proofs.NumbersRunLaws.{run_length}
 use Rattle.dictionary.proofs.OffsetLaws.{cut_length}
 use Rattle.paper.proofs.WordLaws.{there_given, there_some, given_some, and_both}
 
@@ -78,28 +79,28 @@ module _ (m : List ℕ) (w n : ℕ) (width : w ≡ offset_size (at m 0)) (count 
 -- ---- what was read
 
 module _ {m : List ℕ} {d : Names} where
-  pub opened : judged_of m ≡ Good d → Opened m d
+  pub opened : judged_of m ≡ Some d → Opened m d
   unfolding judged_of
   opened = go (is_there (dictionary_of m)) refl
     where
       go : (b : Bool) → is_there (dictionary_of m) ≡ b
-          → cond b (Good (record { width = offset_size (at m 0); count = name_count m; sorted = flag_set (at m 0) })) Broken ≡ Good d
+          → cond b (Some (record { width = offset_size (at m 0); count = name_count m; sorted = flag_set (at m 0) })) None ≡ Some d
           → Opened m d
       go true e is = record { there = e; width = cc; count = cc; sorted = cc }
       go false e is = absurd (let z : ◌≡◌ {A = ℕ} 0 1 = cc in omega arith)
 
-pub broken : (m : List ℕ) → judged_of m ≡ Broken → dictionary_of m ≡ none
+pub broken : (m : List ℕ) → judged_of m ≡ None → dictionary_of m ≡ None
 unfolding judged_of is_there
 broken m = go (dictionary_of m)
   where
     go : (x : Option Dictionary)
-        → cond (is_there x) (Good (record { width = offset_size (at m 0); count = name_count m; sorted = flag_set (at m 0) })) Broken ≡ Broken
-        → x ≡ none
-    go none is = refl
-    go (some names) is = absurd (let z : ◌≡◌ {A = ℕ} 0 1 = cc in omega arith)
+        → cond {A = Option Names} (is_there x) (Some (record { width = offset_size (at m 0); count = name_count m; sorted = flag_set (at m 0) })) None ≡ None
+        → x ≡ None
+    go None is = refl
+    go (Some names) is = absurd (let z : ◌≡◌ {A = ℕ} 0 1 = cc in omega arith)
 
 module _ {m : List ℕ} {d : Names} (o : Opened m d) where
-  pub opened_names : dictionary_of m ≡ some (names_in m)
+  pub opened_names : dictionary_of m ≡ Some (names_in m)
   unfolding dictionary_of
   opened_names =
       let is = (there_some (dictionary_of m) o.there).1 in
@@ -131,3 +132,24 @@ module _ {m : List ℕ} {d : Names} (o : Opened m d) where
 
   pub sorted_before : (i j : ℕ) → d.sorted ≡ true → i < d.count → j < d.count → ltb i j ≡ before (get_or (names_in m) i []) (get_or (names_in m) j [])
   sorted_before i j set h k = let size = opened_count in rising_order (names_in m) i j (omega arith) (omega arith) (opened_rising set)
+
+-- The names of metadata that keeps its rules.
+pub names_told : (m : List ℕ) (names : Dictionary) → dictionary_of m ≡ Some names → names_in m ≡ names
+unfolding dictionary_of
+names_told m names is = same_Some (names_in m) names (given_some _ _ (given_some _ _ (given_some _ _ (given_some _ _ is).1).1).1).1
+
+-- ---- what is read of metadata that keeps its rules
+
+module _ (m : List ℕ) (there : is_there (dictionary_of m) ≡ true) where
+  pub first_there : 0 < length m
+  first_there = let some_byte = (lawful m there).some_byte in omega arith
+
+  module _ {header : ℕ} (is : header ≡ at m 0) where
+    pub count_there : header < 256 → (1 + (header / 64 + 1) ≤ length m) × (1 ≤ header / 64 + 1) × (header / 64 + 1 ≤ 4)
+    unfolding offsets_start offset_size
+    count_there byte = let inside = (lawful m there).count_there in (rw is inside, omega arith, omega arith)
+
+    pub names_opened : {count : ℕ} → count ≡ number_at m 1 (header / 64 + 1)
+        → Opened m (record { width = header / 64 + 1; count = count; sorted = eqb (header / 16 % 2) 1 })
+    unfolding offset_size name_count flag_set
+    names_opened {count} counted = record { there = there; width = rw is; count = counted ∙ rw is; sorted = rw is }

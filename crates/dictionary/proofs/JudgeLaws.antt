@@ -1,4 +1,5 @@
 -- What each test on metadata answers, in the order of the tests.
+use Rattle.std.specs.Prelude.{Some, None}
 use mathlib.Core.Bool.{Bool, true, false, not}
 use mathlib.Core.List.{List}
 use mathlib.Core.Path.{◌≡◌, refl, sym, ap, ◌∙◌}
@@ -8,12 +9,11 @@ use borrow.Author.Tests.{le-leb, lt-leb, eq-eqb, ne_eqb, not-true, not-false}
 use lib.Dec.{leb, eqb}
 use lib.ListN.{length}
 use Rattle.dictionary.specs.Judging.{lawful_names, judged_of}
-use Rattle.dictionary.specs.declared.Judged.TheVariants.{Good, Broken}
 use Rattle.numbers.specs.Little.{number_at}
 use Rattle.paper.specs.Metadata.{header_good, flag_set, offset_size, cut_at, rising, offsets_start, name_count, names_start, name_offsets, names_area, framed, offsets_good, dictionary_of}
 use Rattle.paper.specs.Words.{at, is_there, numbers}
 use Rattle.dictionary.proofs.DictionaryLaws.{lawfulness, start_is, names_start-is, offsets_is, area_is}
-use Rattle.dictionary.proofs.NumbersRunLaws.{rest, rest_is}
+use Rattle.runs.proofs.NumbersRunLaws.{rest, rest_is}
 
 -- ---- offsets and names
 
@@ -34,22 +34,22 @@ module _ (ns area : List ℕ) (flag b : Bool) (answer : b ≡ offsets_good ns ar
 -- ---- the whole
 
 module _ (m : List ℕ) where
-  breaks : is_there (dictionary_of m) ≡ false → Broken ≡ judged_of m
+  breaks : is_there (dictionary_of m) ≡ false → None ≡ judged_of m
   unfolding judged_of
   breaks e = rw e
 
-  pub judge_empty : length m ≡ 0 → Broken ≡ judged_of m
+  pub judge_empty : length m ≡ 0 → None ≡ judged_of m
   judge_empty none = breaks (lawfulness m ∙ rw (lt-leb 1 (length m) (omega arith)))
 
   module _ (some : length m ≡ 0 → ⊥) (h : ℕ) (is : (h ≡ at m 0) × (h < 256)) where
     some_byte : leb 1 (length m) ≡ true
     some_byte = le-leb 1 (length m) (omega arith)
 
-    pub judge_version : (h % 16 ≡ 1 → ⊥) → Broken ≡ judged_of m
+    pub judge_version : (h % 16 ≡ 1 → ⊥) → None ≡ judged_of m
     unfolding header_good
     judge_version ne = breaks (lawfulness m ∙ rw (some_byte, ← is.0, ne_eqb (h % 16) 1 ne))
 
-    pub judge_bit : h % 16 ≡ 1 → (h / 32 % 2 ≡ 0 → ⊥) → Broken ≡ judged_of m
+    pub judge_bit : h % 16 ≡ 1 → (h / 32 % 2 ≡ 0 → ⊥) → None ≡ judged_of m
     unfolding header_good
     judge_bit e ne = breaks (lawfulness m ∙ rw (some_byte, ← is.0, eq-eqb (h % 16) 1 e, ne_eqb (h / 32 % 2) 0 ne))
 
@@ -65,7 +65,7 @@ module _ (m : List ℕ) where
       start_at : offsets_start m ≡ 1 + (h / 64 + 1)
       start_at = start_is m (h / 64 + 1) (name_count m) width_is refl
 
-      pub judge_short : length m < 1 + (h / 64 + 1) → Broken ≡ judged_of m
+      pub judge_short : length m < 1 + (h / 64 + 1) → None ≡ judged_of m
       unfolding framed
       judge_short lt =
           breaks (lawfulness m ∙ rw (some_byte, header_good_lem, start_at, lt-leb (1 + (h / 64 + 1)) (length m) lt))
@@ -78,7 +78,7 @@ module _ (m : List ℕ) where
         names_at : names_start m ≡ 1 + (h / 64 + 1) + (n + 1) * (h / 64 + 1)
         names_at = names_start-is m (h / 64 + 1) n width_is count_is
 
-        pub judge_cut : length m < 1 + (h / 64 + 1) + (n + 1) * (h / 64 + 1) → Broken ≡ judged_of m
+        pub judge_cut : length m < 1 + (h / 64 + 1) + (n + 1) * (h / 64 + 1) → None ≡ judged_of m
         unfolding framed
         judge_cut lt =
             breaks (lawfulness m ∙ rw (some_byte, header_good_lem, start_at, le-leb (1 + (h / 64 + 1)) (length m) long, names_at, lt-leb (1 + (h / 64 + 1) + (n + 1) * (h / 64 + 1)) (length m) lt))
@@ -109,9 +109,9 @@ module _ (m : List ℕ) where
             decides : is_there (dictionary_of m) ≡ b
             decides = lawfulness m ∙ rw (some_byte, header_good_lem, framed_is, flag_is, ← run_is, ← area_of) (sym answer)
 
-            pub judge_good : b ≡ true → Good (record { width = h / 64 + 1; count = n; sorted = eqb (h / 16 % 2) 1 }) ≡ judged_of m
+            pub judge_good : b ≡ true → Some (record { width = h / 64 + 1; count = n; sorted = eqb (h / 16 % 2) 1 }) ≡ judged_of m
             unfolding judged_of
             judge_good e = rw (decides ∙ e) (let w = width_is in let c = count_is in let f = flag_is in cc)
 
-            pub judge_bad : b ≡ false → Broken ≡ judged_of m
+            pub judge_bad : b ≡ false → None ≡ judged_of m
             judge_bad e = breaks (decides ∙ e)

@@ -1,9 +1,9 @@
--- Laws of runs of numbers and of dictionaries, for the proofs of this crate and of those above it.
+-- Laws of dictionaries, for the proofs of this crate and of those above it.
 
-pub mod NumbersRunLaws
 pub mod ChainLaws
 pub mod OffsetLaws
 pub mod WalkLaws
 pub mod DictionaryLaws
+pub mod LentLaws
 pub mod JudgeLaws
 pub mod NameLaws

@@ -11,7 +11,7 @@ use Rattle.numbers.specs.Little.{number_at}
 use Rattle.paper.specs.Metadata.{name_offsets, names_area, names_in}
 use Rattle.paper.specs.Words.{part}
 use Rattle.dictionary.proofs.DictionaryLaws.{lawful, offsets_is, area_is, opened_width, opened_there, offsets_length}
-use Rattle.dictionary.proofs.NumbersRunLaws.{run_at, number_drop, rest, rest_is}
+use Rattle.runs.proofs.NumbersRunLaws.{run_at, number_drop, rest, rest_is}
 use Rattle.dictionary.proofs.OffsetLaws.{cut_at_lem, good_next, good_within}
 
 module _ {m : List ℕ} {d : Names} {id : ℕ} (pre : Opened m d × (id < d.count)) where

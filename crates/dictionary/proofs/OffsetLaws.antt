@@ -11,7 +11,7 @@ use lib.ListN.{length, get_or}
 use Rattle.paper.specs.Metadata.{never_fall, cut_at, offsets_good}
 use Rattle.paper.specs.Words.{part, last_of}
 use Rattle.dictionary.proofs.ChainLaws.{fall_le}
-use Rattle.dictionary.proofs.NumbersRunLaws.{last_at}
+use Rattle.runs.proofs.NumbersRunLaws.{last_at}
 use Rattle.paper.proofs.WordLaws.{and_both}
 
 -- ---- what is cut

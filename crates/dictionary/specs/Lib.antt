@@ -1,2 +1,3 @@
 -- What is read of metadata, by the definitions of 01.
 pub mod Judging
+pub mod Lent

@@ -1,54 +1,47 @@
 // Dictionary: metadata judged by the rules of 01, and its names.
 //
-// The functions with a `requires` are inner ones: whoever calls them has had the metadata judged.
+// Whoever calls `open` has had the metadata judged; the methods' `requires` ask that ids are below the count.
 #![tactic(auto)]
 
 mod ids;
+mod lent;
 
-ghost use Rattle.std.specs.Prelude.{true, [], ◌≡◌, ◌+◌, ◌*◌, ◌≤◌, ◌<◌, length, get_or};
+ghost use Rattle.std.specs.Prelude.{true, [], ◌≡◌, ◌+◌, ◌*◌, ◌/◌, ◌%◌, ◌^◌, ◌≤◌, ◌<◌, eqb, length, get_or};
+ghost use Rattle.numbers.specs.Little.{number_at};
 ghost use Rattle.order.specs.Before.{before};
-ghost use Rattle.paper.specs.Words.{part, numbers};
-ghost use Rattle.paper.specs.Metadata.{offsets_good, cut_at, rising, names_in};
+ghost use Rattle.paper.specs.Words.{part, is_there};
+ghost use Rattle.paper.specs.Metadata.{offsets_good, cut_at, rising, names_in, dictionary_of};
 ghost use Rattle.dictionary.specs.Judging.{lawful_names, judged_of, Opened};
 
-pub use ids::{InputId, NormalId, comes_before, input_id_at};
-use numbers::{read, wide};
+pub use ids::{InputId, NormalId, input_id};
+pub use lent::{Dictionary, judge, open};
+use numbers::read;
 use order::is_before;
+use runs::Run;
 
 // What was read of lawful metadata: the offset size, the count, and the sorted flag.
 #[derive(Clone, Copy)]
-pub struct Names {
-    pub width: usize,
-    pub count: usize,
-    pub sorted: bool,
-}
-
-// What metadata is.
-#[derive(Clone, Copy)]
-pub enum Judged {
-    Good(Names),
-    Broken,
+struct Names {
+    width: usize,
+    count: usize,
+    sorted: bool,
 }
 
 // The first offset is 0, offsets never fall, the last is the length of the names.
-fn offsets_good(run: &[u8], width: usize, count: usize, area: &[u8]) -> bool
-    requires { ((count + 1) * width ≤ length run.now) × (1 ≤ width) × (width ≤ 4) }
-    ensures { result ≡ offsets_good (numbers width (count + 1) run.now) area.now }
+fn offsets_good(offsets: &Run, area: &[u8]) -> bool
+    requires { 1 ≤ length offsets.now }
+    ensures { result ≡ offsets_good offsets.now area.now }
 {
-    let mut last = read(run, 0, width);
+    let mut last = offsets.get(0);
     if last != 0 {
         return false;
     }
-    let mut place = width;
-    let mut i = 0;
-    while i < count {
-        let next = read(run, place, width);
+    for i in 1..offsets.len() {
+        let next = offsets.get(i);
         if next < last {
             return false;
         }
         last = next;
-        place += width;
-        i += 1;
     }
     last == area.len()
 }
@@ -62,87 +55,101 @@ fn rises(area: &[u8], from: usize, to: usize, next: usize) -> bool
 }
 
 // Names rise strictly by unsigned bytes.
-fn names_rise(run: &[u8], width: usize, count: usize, area: &[u8]) -> bool
-    requires { ((count + 1) * width ≤ length run.now) × (1 ≤ width) × (width ≤ 4) × (offsets_good (numbers width (count + 1) run.now) area.now ≡ true) }
-    ensures { result ≡ rising (cut_at area.now (numbers width (count + 1) run.now)) }
+fn names_rise(offsets: &Run, area: &[u8]) -> bool
+    requires { offsets_good offsets.now area.now ≡ true }
+    ensures { result ≡ rising (cut_at area.now offsets.now) }
 {
-    if count == 0 {
+    if offsets.len() <= 1 {
         return true;
     }
-    let last = count - 1;
-    let mut from = 0;
-    let mut to = read(run, width, width);
-    let mut place = width;
-    let mut i = 0;
-    while i < last {
-        place += width;
-        let next = read(run, place, width);
+    let mut from = offsets.get(0);
+    let mut to = offsets.get(1);
+    for i in 2..offsets.len() {
+        let next = offsets.get(i);
         if !rises(area, from, to, next) {
             return false;
         }
         from = to;
         to = next;
-        i += 1;
     }
     true
 }
 
 // The offsets keep their rules, and with the flag set the names rise.
-fn names_lawful(run: &[u8], width: usize, count: usize, area: &[u8], sorted: bool) -> bool
-    requires { ((count + 1) * width ≤ length run.now) × (1 ≤ width) × (width ≤ 4) }
-    ensures { result ≡ lawful_names (numbers width (count + 1) run.now) area.now sorted }
+fn names_lawful(offsets: &Run, area: &[u8], sorted: bool) -> bool
+    requires { 1 ≤ length offsets.now }
+    ensures { result ≡ lawful_names offsets.now area.now sorted }
 {
-    if !offsets_good(run, width, count, area) {
+    if !offsets_good(offsets, area) {
         return false;
     }
     if !sorted {
         return true;
     }
-    names_rise(run, width, count, area)
+    names_rise(offsets, area)
 }
 
-// Judges lent metadata.
-pub fn judge(metadata: &[u8]) -> Judged
+// What a first byte says, and the count behind it.
+fn head_read(metadata: &[u8], header: usize) -> Names
+    requires { (header < 256) × (2 + header / 64 ≤ length metadata.now) }
+    ensures count { (result.count ≡ number_at metadata.now 1 (header / 64 + 1)) × (result.count < 256 ^ (header / 64 + 1)) }
+    ensures told { result ≡ record { width = header / 64 + 1; count = result.count; sorted = eqb (header / 16 % 2) 1 } }
+{
+    let width = header / 64 + 1;
+    let count = read(metadata, 1, width);
+    Names {
+        width,
+        count,
+        sorted: header / 16 % 2 == 1,
+    }
+}
+
+// What is read of metadata that keeps its rules.
+fn names_read(metadata: &[u8]) -> Names
+    requires { is_there (dictionary_of metadata.now) ≡ true }
+    ensures { Opened metadata.now result }
+{
+    head_read(metadata, usize::from(metadata[0]))
+}
+
+// What is read of lent metadata, if it keeps its rules.
+fn judged(metadata: &[u8]) -> Option<Names>
     ensures { result ≡ judged_of metadata.now }
 {
     if metadata.len() == 0 {
-        return Judged::Broken;
+        return None;
     }
-    let header = wide(metadata[0]);
+    let header = usize::from(metadata[0]);
     if header % 16 != 1 {
-        return Judged::Broken;
+        return None;
     }
     if header / 32 % 2 != 0 {
-        return Judged::Broken;
+        return None;
     }
     let width = header / 64 + 1;
     let start = 1 + width;
     if metadata.len() < start {
-        return Judged::Broken;
+        return None;
     }
-    let count = read(metadata, 1, width);
-    let names = start + (count + 1) * width;
+    let head = head_read(metadata, header);
+    let names = start + (head.count + 1) * width;
     if metadata.len() < names {
-        return Judged::Broken;
+        return None;
     }
-    let sorted = header / 16 % 2 == 1;
-    if names_lawful(&metadata[start..], width, count, &metadata[names..], sorted) {
-        return Judged::Good(Names {
-            width,
-            count,
-            sorted,
-        });
+    let offsets = Run::new(&metadata[start..], width, head.count + 1);
+    if names_lawful(&offsets, &metadata[names..], head.sorted) {
+        return Some(head);
     }
-    Judged::Broken
+    None
 }
 
 // The name of an id.
-pub fn name(metadata: &[u8], dictionary: Names, id: InputId) -> &[u8]
-    requires { Opened metadata.now dictionary × (id.0 < dictionary.count) }
+fn name(metadata: &[u8], opened: Names, id: InputId) -> &[u8]
+    requires { Opened metadata.now opened × (id.0 < opened.count) }
     ensures { result.now ≡ get_or (names_in metadata.now) id.0 [] }
 {
-    let width = dictionary.width;
-    let count = dictionary.count;
+    let width = opened.width;
+    let count = opened.count;
     let place = 1 + width + id.0 * width;
     let area = 1 + width + (count + 1) * width;
     let from = read(metadata, place, width);

@@ -1,21 +1,19 @@
--- A lent document judged: what was read of its metadata where both keep their rules, else the lowest refusal.
-use Rattle.std.specs.Prelude.{List, ℕ}
+-- A lent document judged: what its metadata opens to where both keep their rules, else the lowest refusal.
+use Rattle.std.specs.Prelude.{List, ℕ, length, Err, Ok}
 use Rattle.paper.specs.Words.{at}
-use Rattle.paper.specs.Refusals.{Outcome, refused, reached}
-use Rattle.paper.specs.Metadata.{offset_size, name_count, flag_set}
+use Rattle.paper.specs.Refusals.{Outcome}
+use Rattle.paper.specs.Metadata.{flag_set, names_in}
 use Rattle.paper.specs.Meaning.{Doc}
 use Rattle.paper.specs.Operations.{check_outcome}
-use Rattle.dictionary.specs.declared.Names.{Names}
-use Rattle.documents.specs.declared.Document.{Document}
-use Rattle.documents.specs.declared.Document.TheVariants.{Lawful, Refused}
+use Rattle.dictionary.specs.Lent.{LentNames}
 
--- What is read of metadata.
-unfoldable pub names_read : List ℕ → Names
-names_read metadata = record { width = offset_size (at metadata 0); count = name_count metadata; sorted = flag_set (at metadata 0) }
+-- What `lent_of` opens metadata to where it keeps its rules, read of any metadata.
+unfoldable pub lent_read : List ℕ → LentNames
+lent_read metadata = record { names = names_in metadata; sorted = flag_set (at metadata 0); size = length metadata }
 
-unfoldable pub document_by : Names → Outcome Doc → Document
-document_by names (refused r) = Refused r
-document_by names (reached d) = Lawful names
+unfoldable pub document_by : LentNames → Outcome Doc → Outcome LentNames
+document_by names (Err r) = Err r
+document_by names (Ok d) = Ok names
 
-unfoldable pub document_of : List ℕ → List ℕ → Document
-document_of metadata value = document_by (names_read metadata) (check_outcome metadata value)
+unfoldable pub document_of : List ℕ → List ℕ → Outcome LentNames
+document_of metadata value = document_by (lent_read metadata) (check_outcome metadata value)

@@ -1,19 +1,19 @@
 -- A value under a column, by the tests of its first byte and of the column's code.
+use Rattle.std.specs.Prelude.{Option, Some, None}
 use mathlib.Core.List.{List, [], ◌∷◌}
-use mathlib.Core.Path.{◌≡◌, sym, ◌∙◌}
+use mathlib.Core.Path.{◌≡◌, refl, sym, ◌∙◌}
 use Prim.Native.Nat.{ℕ, ◌≤◌}
 use borrow.Author.Tests.{eq-eqb, ne_eqb}
 use lib.ListN.{length}
-use Rattle.dictionary.proofs.NumbersRunLaws.{rest, rest_is}
+use Rattle.runs.proofs.NumbersRunLaws.{rest, rest_is}
 use Rattle.paper.specs.FirstBytes.{reading_of}
 use Rattle.paper.specs.Words.{at}
 use Rattle.paper.specs.declared.Reading.TheVariants.{Fixed, Prefixed, Short, ObjectHead, ArrayHead, Nothing}
 use Rattle.paper.specs.declared.Reading.{Reading}
 use Rattle.putting.specs.Put.{PutAs}
-use Rattle.putting.specs.declared.Put.{Put}
 use Rattle.enclosing.specs.Frames.{place_of, typed_if, fixed_place, column_place, Headed}
 
-module _ (code kind : ℕ) (s : List ℕ) {before after : List ℕ} {end : ℕ} {r : Put} where
+module _ (code kind : ℕ) (s : List ℕ) {before after : List ℕ} {end : ℕ} {r : Option ℕ} where
   -- ---- of a fixed size
 
   module _ (yes-no : code ≡ 1) where
@@ -44,7 +44,7 @@ module _ (code kind : ℕ) (s : List ℕ) {before after : List ℕ} {end : ℕ} 
 pub prefix_there : (s : List ℕ) (r : Reading) (kind : ℕ) → r ≡ reading_of (at s 0) → r ≡ Prefixed kind → Headed s → 5 ≤ length s
 prefix_there s r kind is e headed = headed.prefix kind (sym is ∙ e)
 
-module _ (code : ℕ) (s : List ℕ) {before after : List ℕ} {end : ℕ} {answer : Put} (r : Reading) (is : r ≡ reading_of (at s 0)) where
+module _ (code : ℕ) (s : List ℕ) {before after : List ℕ} {end : ℕ} {answer : Option ℕ} (r : Reading) (is : r ≡ reading_of (at s 0)) where
   says : {q : Reading} → r ≡ q → PutAs (column_place code q s) before after 0 end answer
       → PutAs (column_place code (reading_of (at s 0)) s) before after 0 end answer
   says e done = rw (← is, e) done
@@ -77,15 +77,16 @@ module _ (code : ℕ) (s : List ℕ) {before after : List ℕ} {end : ℕ} {answ
     short_left apart done = says e (rw (ne_eqb code 16 apart) done)
 
   -- An array, an object, or what has no reading.
-  module _ (left : PutAs (place_of 0x41 s) before after 0 end answer) where
-    pub object_left : (counted id width : ℕ) → r ≡ ObjectHead counted id width → PutAs (column_place code (reading_of (at s 0)) s) before after 0 end answer
-    unfolding column_place
-    object_left counted id width e = says e left
-
-    pub array_left : (counted width : ℕ) → r ≡ ArrayHead counted width → PutAs (column_place code (reading_of (at s 0)) s) before after 0 end answer
-    unfolding column_place
-    array_left counted width e = says e left
-
-    pub nothing_left : r ≡ Nothing → PutAs (column_place code (reading_of (at s 0)) s) before after 0 end answer
-    unfolding column_place
-    nothing_left e = says e left
+  pub other_left : ((kind size : ℕ) → r ≡ Fixed kind size → ⊥) → ((kind : ℕ) → r ≡ Prefixed kind → ⊥) → ((size : ℕ) → r ≡ Short size → ⊥)
+      → PutAs (place_of 0x41 s) before after 0 end answer → PutAs (column_place code (reading_of (at s 0)) s) before after 0 end answer
+  unfolding column_place
+  other_left no_fixed no_prefixed no_short left = says refl (go r no_fixed no_prefixed no_short)
+    where
+      go : (q : Reading) → ((kind size : ℕ) → q ≡ Fixed kind size → ⊥) → ((kind : ℕ) → q ≡ Prefixed kind → ⊥) → ((size : ℕ) → q ≡ Short size → ⊥)
+          → PutAs (column_place code q s) before after 0 end answer
+      go (Fixed kind size) f p h = absurd (f kind size refl)
+      go (Prefixed kind) f p h = absurd (p kind refl)
+      go (Short size) f p h = absurd (h size refl)
+      go (ObjectHead counted id width) f p h = left
+      go (ArrayHead counted width) f p h = left
+      go Nothing f p h = left

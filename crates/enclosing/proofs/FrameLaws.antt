@@ -1,4 +1,5 @@
 -- A frame is its head in front of its body: the head is put, one more in front of it, or there is no room for it.
+use Rattle.std.specs.Prelude.{Some, None, Option}
 use mathlib.Core.List.{List, [], ◌++◌, append_assoc}
 use mathlib.Core.Path.{◌≡◌, refl, sym, ap, ◌∙◌}
 use Prim.Native.Nat.{ℕ, suc, ◌+◌, ◌-◌, ◌≤◌, ◌<◌}
@@ -10,8 +11,6 @@ use Rattle.paper.specs.Framing.{frame}
 use Rattle.putting.proofs.PutLaws.{put_join, told_here, told_full}
 use Rattle.putting.proofs.ScalarLaws.{byte_ends}
 use Rattle.putting.specs.Put.{PutAs, put, full}
-use Rattle.putting.specs.declared.Put.TheVariants.{At, Full}
-use Rattle.putting.specs.declared.Put.{Put}
 use Rattle.writing.proofs.EndLaws.{number_ends, ends_join, ends_length}
 use Rattle.writing.specs.Ends.{EndsAt}
 use Rattle.enclosing.specs.Frames.{frame_head, place_of}
@@ -31,11 +30,11 @@ frame_length tag body =
 -- ---- one head
 
 module _ (tag size : ℕ) {before : List ℕ} {start : ℕ} where
-  pub head_full : {after : List ℕ} → start < 3 → PutAs (frame_head tag size) before after 0 start Full
+  pub head_full : {after : List ℕ} → start < 3 → PutAs (frame_head tag size) before after 0 start None
   head_full short = let long = head_length tag size in full (omega arith)
 
   pub put_head : {middle after : List ℕ} → tag < 256 → 3 ≤ start → start ≤ length before → middle ≡ put_at before (start - 3 + 1) (number_bytes 2 size)
-      → after ≡ put_at middle (start - 3) (number_bytes 1 tag) → PutAs (frame_head tag size) before after 0 start (At (start - 3))
+      → after ≡ put_at middle (start - 3) (number_bytes 1 tag) → PutAs (frame_head tag size) before after 0 start (Some (start - 3))
   unfolding frame_head
   put_head {middle} small fits within count_is is =
       let count = number_ends before (start - 3 + 1) 2 size {end = start} count_is (omega arith) in
@@ -43,7 +42,7 @@ module _ (tag size : ℕ) {before : List ℕ} {start : ℕ} where
       put (start - 3) (omega arith) (ends_join count within one)
 
 -- In front of its body it makes the frame.
-pub put_framed : (tag : ℕ) (body : List ℕ) {before middle after : List ℕ} {start end : ℕ} {r : Put} → end ≤ length before → EndsAt body before middle end start
+pub put_framed : (tag : ℕ) (body : List ℕ) {before middle after : List ℕ} {start end : ℕ} {r : Option ℕ} → end ≤ length before → EndsAt body before middle end start
     → PutAs (frame_head tag (end - start)) middle after 0 start r → PutAs (frame tag body) before after 0 end r
 put_framed tag body {before} {middle} {after} {start} {end} {r} within ends head =
     let all = ends.size in
@@ -52,15 +51,15 @@ put_framed tag body {before} {middle} {after} {start} {end} {r} within ends head
 
 -- ---- the two heads of a place of one part
 
-module _ (tag end : ℕ) {before middle : List ℕ} {start : ℕ} {r : Put}
+module _ (tag end : ℕ) {before middle : List ℕ} {start : ℕ} {r : Option ℕ}
     (within : start ≤ length before) (one : PutAs (frame_head tag (end - start)) before middle 0 start r) where
-  pub enclosed_full : r ≡ Full → {after : List ℕ} → PutAs (frame_head 0x50 (3 + (end - start)) ++ frame_head tag (end - start)) before after 0 start Full
+  pub enclosed_full : r ≡ None → {after : List ℕ} → PutAs (frame_head 0x50 (3 + (end - start)) ++ frame_head tag (end - start)) before after 0 start None
   enclosed_full e =
       let short = told_full one e in
       let long = length-append (frame_head 0x50 (3 + (end - start))) (frame_head tag (end - start)) in
       full (omega arith)
 
-  module _ {inner : ℕ} (here : r ≡ At inner) where
+  module _ {inner : ℕ} (here : r ≡ Some inner) where
     inner_is : inner + 3 ≡ start
     inner_is =
         let size = (told_here one here).1.size in
@@ -77,7 +76,7 @@ module _ (tag end : ℕ) {before middle : List ℕ} {start : ℕ} {r : Put}
     pub inner_short : (n : ℕ) → length before ≤ n → length middle ≤ n
     inner_short n few = rw (ends_length (told_here one here).1 within) few
 
-    pub put_enclosed : {after : List ℕ} {q : Put} → start ≤ end → PutAs (frame_head 0x50 (end - inner)) middle after 0 inner q
+    pub put_enclosed : {after : List ℕ} {q : Option ℕ} → start ≤ end → PutAs (frame_head 0x50 (end - inner)) middle after 0 inner q
         → PutAs (frame_head 0x50 (3 + (end - start)) ++ frame_head tag (end - start)) before after 0 start q
     put_enclosed {after} {q} ordered two =
         let place = inner_is in
@@ -87,7 +86,7 @@ module _ (tag end : ℕ) {before middle : List ℕ} {start : ℕ} {r : Put}
 
 -- ---- places that are empty or have one part
 
-pub put_empty : {before after : List ℕ} {end : ℕ} {r : Put} → PutAs (frame_head 0x50 (end - end)) before after 0 end r → PutAs (frame 0x50 []) before after 0 end r
+pub put_empty : {before after : List ℕ} {end : ℕ} {r : Option ℕ} → PutAs (frame_head 0x50 (end - end)) before after 0 end r → PutAs (frame 0x50 []) before after 0 end r
 unfolding frame frame_head number_bytes
 put_empty {before} {after} {end} {r} done = let none : end - end ≡ 0 = omega arith in rw none at done
 
@@ -109,10 +108,10 @@ pub place_long : (tag : ℕ) (body : List ℕ) → length body ≤ length (place
 place_long tag body = let size = place_size tag body in omega arith
 
 module _ (tag : ℕ) (body : List ℕ) {before : List ℕ} {end : ℕ} where
-  pub place_full : {after : List ℕ} → end < length body → PutAs (place_of tag body) before after 0 end Full
+  pub place_full : {after : List ℕ} → end < length body → PutAs (place_of tag body) before after 0 end None
   place_full short = let long = place_long tag body in full (omega arith)
 
-  pub put_place : {middle after : List ℕ} {start : ℕ} {r : Put} → end ≤ length before → EndsAt body before middle end start
+  pub put_place : {middle after : List ℕ} {start : ℕ} {r : Option ℕ} → end ≤ length before → EndsAt body before middle end start
       → PutAs (frame_head 0x50 (3 + (end - start)) ++ frame_head tag (end - start)) middle after 0 start r → PutAs (place_of tag body) before after 0 end r
   put_place {middle} {after} {start} {r} within ends heads =
       let all = ends.size in

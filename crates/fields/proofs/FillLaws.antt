@@ -1,9 +1,9 @@
 -- The scan that fills the table: the fields in front of a place are told, the others are left.
+use Rattle.std.specs.Prelude.{Some}
 use mathlib.Core.Bool.{true}
 use mathlib.Core.List.{List, [], ◌∷◌, ◌++◌, append-nil}
-use mathlib.Core.Option.{some}
 use mathlib.Core.Path.{◌≡◌, refl, sym, ap, subst, ◌∙◌}
-use Prim.Native.Nat.{ℕ, ◌+◌, ◌/◌, ◌≤◌, ◌<◌}
+use Prim.Native.Nat.{ℕ, ◌/◌, ◌≤◌, ◌<◌}
 use native.Mathlib.Omega.{arith}
 use lib.ListN.{length, length-set}
 use lib.Seq.{append_snoc}
@@ -25,7 +25,7 @@ use Rattle.schemas.specs.Walk.{frame_next}
 
 pub record ScanSeen (names : Dictionary) (s before table : List ℕ) (place : ℕ) : Type 0 where
   pub root : Schema
-  pub is : schema_of s ≡ some root
+  pub is : schema_of s ≡ Some root
   pub front : List Spot
   pub left : List Spot
   pub whole : spots_in s root 0 ≡ front ++ left
@@ -118,7 +118,7 @@ module _ {names : Dictionary} {s before table : List ℕ} {place : ℕ} (scanned
 
   -- ---- the end
 
-  pub scan_done : length s ≤ place → (node : Schema) → schema_of s ≡ some node → Told names s table node 0
+  pub scan_done : length s ≤ place → (node : Schema) → schema_of s ≡ Some node → Told names s table node 0
   scan_done past node e = go (next scanned.rest)
     where
       go : Next s place scanned.left → Told names s table node 0

@@ -1,8 +1,8 @@
 -- Whether a schema names fields: its lists are passed, and the node under them tells. Of a schema that names none every table
 -- tells.
+use Rattle.std.specs.Prelude.{Some}
 use mathlib.Core.Bool.{true, false}
 use mathlib.Core.List.{List}
-use mathlib.Core.Option.{some}
 use mathlib.Core.Path.{◌≡◌, refl, sym, ◌∙◌}
 use Prim.Native.Nat.{ℕ, ◌+◌, ◌-◌, ◌<◌}
 use native.Mathlib.Omega.{arith}
@@ -30,7 +30,7 @@ none_told names s table (fields columns) place e = never e
 -- The node at a place names fields exactly when the schema does.
 pub record ListsSeen (s : List ℕ) (place : ℕ) : Type 0 where
   pub root : Schema
-  pub is : schema_of s ≡ some root
+  pub is : schema_of s ≡ Some root
   pub levels : ℕ
   pub node : Schema
   pub stands : Stands levels s place node
@@ -56,7 +56,7 @@ module _ {s : List ℕ} {place : ℕ} (seen : ListsSeen s place) where
           record { root = seen.root; is = seen.is; levels = seen.levels - 1; node = element; stands = here.inside; same = same }
       go (fields_at here) same = absurd (omega (arith, here.tagged))
 
-  pub lists_done : (at s place ≡ 0x20 → ⊥) → (node : Schema) → schema_of s ≡ some node → eqb (at s place) 0x30 ≡ names_fields node
+  pub lists_done : (at s place ≡ 0x20 → ⊥) → (node : Schema) → schema_of s ≡ Some node → eqb (at s place) 0x30 ≡ names_fields node
   unfolding names_fields
   lists_done no_list node is =
       let whole = seen.is in

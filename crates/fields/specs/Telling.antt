@@ -1,8 +1,7 @@
 -- A table that tells of each schema field which id its name has in a dictionary, by the field's position in the schema.
-use Rattle.std.specs.Prelude.{Bool, true, false, List, ◌≡◌, ℕ, zero, suc, ◌+◌, ◌/◌, get_or, set}
+use Rattle.dictionary.specs.declared.ids.InputId.{InputId}
+use Rattle.std.specs.Prelude.{Bool, true, false, List, ◌≡◌, ℕ, zero, suc, ◌+◌, ◌/◌, get_or, set, Option, Some, None}
 use Rattle.lookup.specs.Looking.{Tells}
-use Rattle.lookup.specs.declared.Looked.{Looked}
-use Rattle.lookup.specs.declared.Looked.TheVariants.{At, Nowhere}
 use Rattle.paper.specs.Metadata.{Dictionary}
 use Rattle.paper.specs.Schemas.{Column, Schema, leftover_only, column, list, fields, SchemaFields, none_named, named}
 use Rattle.schemas.specs.Frames.{frame_end}
@@ -11,19 +10,19 @@ use Rattle.schemas.specs.Positions.{field_node}
 -- ---- entries
 
 -- An entry is 0 where no id has the name, else one more than the id.
-unfoldable pub entry_of : Looked → ℕ
-entry_of (At id) = id.0 + 1
-entry_of Nowhere = 0
+unfoldable pub entry_of : Option InputId → ℕ
+entry_of (Some id) = id.0 + 1
+entry_of None = 0
 
-unfoldable pub looked_of : ℕ → Looked
-looked_of zero = Nowhere
-looked_of (suc id) = At (record { 0 = id })
+unfoldable pub looked_of : ℕ → Option InputId
+looked_of zero = None
+looked_of (suc id) = Some (record { 0 = id })
 
 -- A field takes nine bytes at least, the heads of its own frame, its name's and its node's, so no two share an entry.
 abbrev pub entry_place : (place : ℕ) → ℕ
 entry_place place = place / 9
 
-abbrev pub looked_at : (table : List ℕ) → (place : ℕ) → Looked
+abbrev pub looked_at : (table : List ℕ) → (place : ℕ) → Option InputId
 looked_at table place = looked_of (get_or table (entry_place place) 0)
 
 -- ---- whether there are fields
@@ -54,6 +53,6 @@ mutual
 
 -- A table with one entry more: what it tells of a name.
 pub record Noted (names : Dictionary) (name : List ℕ) (place : ℕ) (before after : List ℕ) : Type 0 where
-  pub looked : Looked
+  pub looked : Option InputId
   pub tells : Tells names name looked
   pub entered : after ≡ set before (entry_place place) (entry_of looked)

@@ -1,8 +1,8 @@
 -- What is written under a dictionary with all of its names means the document: shown one level further in at a time, the
 -- elements and members of one container by what decodes one of them.
+use Rattle.std.specs.Prelude.{Option, Some}
 use mathlib.Core.Bool.{Bool, true}
 use mathlib.Core.List.{List, [], ◌++◌, map}
-use mathlib.Core.Option.{Option, some}
 use mathlib.Core.Path.{◌≡◌, refl, sym, ap, ◌∙◌}
 use Prim.Native.Nat.{ℕ, zero, suc, ◌+◌, ◌^◌, ◌≤◌, ◌<◌}
 use native.Mathlib.Omega.{arith}
@@ -49,11 +49,11 @@ module _ (names : Dictionary) where
 
 module _ (names : Dictionary) (inner : List ℕ → Option Doc) (good : Doc → Bool)
     (each : (d : Doc) → good d ≡ true → names_there names d ≡ true → length (value_bytes names d) < 2 ^ 32
-    → Filled (value_bytes names d) × (inner (value_bytes names d) ≡ some d)) where
+    → Filled (value_bytes names d) × (inner (value_bytes names d) ≡ Some d)) where
   elements_back : (front : List ℕ) (ds : Docs) → all_docs good ds ≡ true → all_names_there names ds ≡ true
       → length (joined (element_bytes names ds)) < 2 ^ 32
       → AllFilled (element_bytes names ds)
-      × (element_docs inner (front ++ joined (element_bytes names ds)) (children_from (length front) (element_bytes names ds)) ≡ some ds)
+      × (element_docs inner (front ++ joined (element_bytes names ds)) (children_from (length front) (element_bytes names ds)) ≡ Some ds)
   unfolding all_docs all_names_there element_bytes joined AllFilled children_from element_docs and_then
   elements_back front no_docs all there small = (tt, refl)
   elements_back front (doc d ds) all there small =
@@ -64,14 +64,14 @@ module _ (names : Dictionary) (inner : List ℕ → Option Doc) (good : Doc → 
       let size : length (one ++ joined more) ≡ length one + length (joined more) = length-append one (joined more) in
       let first = each d goods.0 found.0 (omega arith) in
       let rest = elements_back (front ++ one) ds goods.1 found.1 (omega arith) in
-      let here : element_docs inner (front ++ (one ++ joined more)) (children_from (length front + length one) more) ≡ some ds =
+      let here : element_docs inner (front ++ (one ++ joined more)) (children_from (length front + length one) more) ≡ Some ds =
       rw (further front one more, ← length-append front one) rest.1 in
       ((first.0, rest.0), rw (part_bytes front one more, first.1, here))
 
   members_back : (front : List ℕ) (fs : Fields) → all_members good fs ≡ true → field_names_there names fs ≡ true
       → length (joined (member_bytes names fs)) < 2 ^ 32
       → AllFilled (member_bytes names fs)
-      × (member_docs inner (front ++ joined (member_bytes names fs)) (field_names fs) (children_from (length front) (member_bytes names fs)) ≡ some fs)
+      × (member_docs inner (front ++ joined (member_bytes names fs)) (field_names fs) (children_from (length front) (member_bytes names fs)) ≡ Some fs)
   unfolding all_members field_names_there member_bytes field_names joined AllFilled children_from member_docs and_then
   members_back front no_fields all there small = (tt, refl)
   members_back front (field name d fs) all there small =
@@ -82,7 +82,7 @@ module _ (names : Dictionary) (inner : List ℕ → Option Doc) (good : Doc → 
       let size : length (one ++ joined more) ≡ length one + length (joined more) = length-append one (joined more) in
       let first = each d goods.0 found.0 (omega arith) in
       let rest = members_back (front ++ one) fs goods.1 found.1 (omega arith) in
-      let here : member_docs inner (front ++ (one ++ joined more)) (field_names fs) (children_from (length front + length one) more) ≡ some fs =
+      let here : member_docs inner (front ++ (one ++ joined more)) (field_names fs) (children_from (length front + length one) more) ≡ Some fs =
       rw (further front one more, ← length-append front one) rest.1 in
       ((first.0, rest.0), rw (part_bytes front one more, first.1, here))
 
@@ -90,9 +90,9 @@ module _ (names : Dictionary) (inner : List ℕ → Option Doc) (good : Doc → 
 
 module _ (names : Dictionary) (few : length names ≤ 2 ^ 32) where
   by_kind : (levels : ℕ) → ((d : Doc) → well_formed levels d ≡ true → names_there names d ≡ true → length (value_bytes names d) < 2 ^ 32
-      → Filled (value_bytes names d) × (meaning_of levels names (value_bytes names d) ≡ some d))
+      → Filled (value_bytes names d) × (meaning_of levels names (value_bytes names d) ≡ Some d))
       → (d : Doc) → well_formed_by (well_formed levels) d ≡ true → names_there names d ≡ true → length (value_bytes names d) < 2 ^ 32
-      → Filled (value_bytes names d) × (meaning_of (suc levels) names (value_bytes names d) ≡ some d)
+      → Filled (value_bytes names d) × (meaning_of (suc levels) names (value_bytes names d) ≡ Some d)
   unfolding well_formed_by names_there value_bytes and_then
   by_kind levels each null good there small = let is = null_written names in (is.0, is.1 levels)
   by_kind levels each (scalar a) good there small = let is = scalar_written names a good small in (is.0, is.1 levels)
@@ -114,7 +114,7 @@ module _ (names : Dictionary) (few : length names ≤ 2 ^ 32) where
       )
 
   value_written : (levels : ℕ) (d : Doc) → well_formed levels d ≡ true → names_there names d ≡ true → length (value_bytes names d) < 2 ^ 32
-      → Filled (value_bytes names d) × (meaning_of levels names (value_bytes names d) ≡ some d)
+      → Filled (value_bytes names d) × (meaning_of levels names (value_bytes names d) ≡ Some d)
   unfolding well_formed
   value_written zero d good there small = never (sym good)
   value_written (suc levels) d good there small = by_kind levels (value_written levels) d good there small
@@ -122,9 +122,9 @@ module _ (names : Dictionary) (few : length names ≤ 2 ^ 32) where
   module _ (levels : ℕ) (d : Doc) (good : well_formed levels d ≡ true) (there : names_there names d ≡ true)
       (small : length (value_bytes names d) < 2 ^ 32) where
     -- It says how long it is, whatever stands behind it.
-    pub value_extent : (rest : List ℕ) → extent (value_bytes names d ++ rest) ≡ some (length (value_bytes names d))
+    pub value_extent : (rest : List ℕ) → extent (value_bytes names d ++ rest) ≡ Some (length (value_bytes names d))
     value_extent rest = extent_more (value_bytes names d) rest (value_written levels d good there small).0
 
     -- It means the document.
-    pub value_back : meaning_of levels names (value_bytes names d) ≡ some d
+    pub value_back : meaning_of levels names (value_bytes names d) ≡ Some d
     value_back = (value_written levels d good there small).1

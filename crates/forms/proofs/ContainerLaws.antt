@@ -1,7 +1,7 @@
 -- Arrays and objects that are written of filled parts: they say how long they are, and mean what their parts mean.
+use Rattle.std.specs.Prelude.{Some}
 use mathlib.Core.Bool.{Bool, true, false, cond}
 use mathlib.Core.List.{List, [], ◌∷◌}
-use mathlib.Core.Option.{some}
 use mathlib.Core.Path.{◌≡◌, refl, sym, ap, ◌∙◌}
 use Prim.Native.Nat.{ℕ, suc, ◌+◌, ◌-◌, ◌*◌, ◌^◌, ◌≤◌, ◌<◌}
 use native.Mathlib.Nat.{mul-zero, mul-one, mul-le-mul}
@@ -142,7 +142,7 @@ module _ (parts : List (List ℕ)) where
         filled array_first 0 [] parts no_ids small (ArrayHead (count_of parts) (width_of parts)) is refl
 
     module _ (all : AllFilled parts) where
-      array_elements : elements_of (count_of parts) (width_of parts) array_laid ≡ some (children_from 0 parts)
+      array_elements : elements_of (count_of parts) (width_of parts) array_laid ≡ Some (children_from 0 parts)
       unfolding elements_of given and_then
       array_elements =
           rw (
@@ -154,7 +154,7 @@ module _ (parts : List (List ℕ)) where
           )
 
       array_means : (levels : ℕ) (names : Dictionary) → meaning_of (suc levels) names array_laid
-          ≡ and_then (element_docs (meaning_of levels names) (joined parts) (children_from 0 parts)) λ ds. some (array ds)
+          ≡ and_then (element_docs (meaning_of levels names) (joined parts) (children_from 0 parts)) λ ds. Some (array ds)
       unfolding meaning_by and_then
       array_means levels names =
           filled_meaning levels names array_laid (ArrayHead (count_of parts) (width_of parts)) array_fills.0 array_fills.1
@@ -165,7 +165,7 @@ module _ (parts : List (List ℕ)) where
     array_filled = rw array_same (array_fills (rw array_same at small)).0
 
     pub array_meaning : AllFilled parts → (levels : ℕ) (names : Dictionary) → meaning_of (suc levels) names (array_bytes parts)
-        ≡ and_then (element_docs (meaning_of levels names) (joined parts) (children_from 0 parts)) λ ds. some (array ds)
+        ≡ and_then (element_docs (meaning_of levels names) (joined parts) (children_from 0 parts)) λ ds. Some (array ds)
     array_meaning all levels names = rw array_same (array_means (rw array_same at small) all levels names)
 
 -- ---- objects
@@ -212,7 +212,7 @@ module _ (ids : List ℕ) (parts : List (List ℕ)) (same : length ids ≡ lengt
           ids_are object_first id_width (numbers_bytes id_width ids) parts ids_size small ids (smallest_bounds (largest ids)).0 refl same
           (below_largest (256 ^ id_width) ids fits)
 
-      object_members : members_of names (count_of parts) id_width (width_of parts) object_laid ≡ some (children_from 0 parts)
+      object_members : members_of names (count_of parts) id_width (width_of parts) object_laid ≡ Some (children_from 0 parts)
       unfolding members_of given and_then
       object_members =
           rw (
@@ -227,7 +227,7 @@ module _ (ids : List ℕ) (parts : List (List ℕ)) (same : length ids ≡ lengt
           )
 
       object_means : (levels : ℕ) → meaning_of (suc levels) names object_laid
-          ≡ and_then (member_docs (meaning_of levels names) (joined parts) (names_at names ids) (children_from 0 parts)) λ fs. some (object fs)
+          ≡ and_then (member_docs (meaning_of levels names) (joined parts) (names_at names ids) (children_from 0 parts)) λ fs. Some (object fs)
       unfolding meaning_by and_then
       object_means levels =
           filled_meaning levels names object_laid (ObjectHead (count_of parts) id_width (width_of parts)) object_fills.0 object_fills.1
@@ -239,5 +239,5 @@ module _ (ids : List ℕ) (parts : List (List ℕ)) (same : length ids ≡ lengt
 
     pub object_meaning : AllFilled parts → (names : Dictionary) → length names ≤ 2 ^ 32 → all_below (length names) ids ≡ true
         → rising (names_at names ids) ≡ true → (levels : ℕ) → meaning_of (suc levels) names (object_bytes ids parts)
-        ≡ and_then (member_docs (meaning_of levels names) (joined parts) (names_at names ids) (children_from 0 parts)) λ fs. some (object fs)
+        ≡ and_then (member_docs (meaning_of levels names) (joined parts) (names_at names ids) (children_from 0 parts)) λ fs. Some (object fs)
     object_meaning all names few below rise levels = rw object_same (object_means (rw object_same at small) all names few below rise levels)

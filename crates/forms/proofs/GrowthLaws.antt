@@ -1,8 +1,8 @@
 -- How long what is written is, against what was read: never more than twice as long. So is the normal value of a lent
 -- document, against the value that was lent.
+use Rattle.std.specs.Prelude.{Option, None, Some}
 use mathlib.Core.Bool.{Bool, true, false, cond}
 use mathlib.Core.List.{List, ◌∷◌, map}
-use mathlib.Core.Option.{Option, none, some, some-injective}
 use mathlib.Core.Path.{◌≡◌, refl, sym, ap, ◌∙◌}
 use Prim.Native.Nat.{ℕ, zero, suc, ◌+◌, ◌*◌, ◌/◌, ◌≤◌, ◌<◌}
 use native.Mathlib.Omega.{arith}
@@ -17,7 +17,8 @@ use Rattle.paper.specs.Bounds.{most_names}
 use Rattle.paper.specs.Meaning.{boolean, payload, text, Doc, null, scalar, array, object, Docs, Fields}
 use Rattle.paper.specs.Metadata.{Dictionary}
 use Rattle.paper.specs.Normal.{names_used, normal_form, largest, prefixed_bytes, text_bytes, scalar_bytes, id_of, field_names, value_bytes, element_bytes, member_bytes}
-use Rattle.paper.specs.Values.{Child, extent_by, area_of, ids_of, names_at, elements_of, members_of, primitive_meaning, element_docs, member_docs, meaning_by, meaning_of, whole}
+use Rattle.paper.specs.Values.{extent_by, area_of, ids_of, names_at, elements_of, members_of, primitive_meaning, element_docs, member_docs, meaning_by, meaning_of, whole}
+use Rattle.paper.specs.declared.Child.{Child}
 use Rattle.paper.specs.Words.{at, is_there}
 use Rattle.paper.specs.declared.Reading.TheVariants.{Fixed, Prefixed, Short, ObjectHead, ArrayHead, Nothing}
 use Rattle.paper.specs.declared.Reading.{Reading}
@@ -36,6 +37,7 @@ use Rattle.numbers.proofs.WidthLaws.{smallest_least}
 use Rattle.paper.proofs.WordLaws.{never, given_some, then_some, some_there}
 use Rattle.values.proofs.PrimitiveLaws.{whole_extent}
 use Rattle.forms.proofs.WiderLaws.{most_read, Grows, elements_grow, members_grow, area_bytes, area_short, container_grows}
+use Rattle.std.proofs.lemmas.Option.{same_Some}
 
 -- ---- scalars
 
@@ -52,14 +54,14 @@ text_grows s = go (leb (length s) 63)
     go false = let size = prefixed_length 16 s in omega arith
 
 module _ (used : Dictionary) where
-  primitive_grows : (type : ℕ) (s : List ℕ) (d : Doc) → (type ≡ 15 → ⊥) → primitive_meaning type s ≡ some d → length (value_bytes used d) ≤ 1 + length s
+  primitive_grows : (type : ℕ) (s : List ℕ) (d : Doc) → (type ≡ 15 → ⊥) → primitive_meaning type s ≡ Some d → length (value_bytes used d) ≤ 1 + length s
   unfolding primitive_meaning value_bytes scalar_bytes
-  primitive_grows zero s d other e = rw (← some-injective null d e) (omega arith)
-  primitive_grows (suc zero) s d other e = rw (← some-injective (scalar (boolean true)) d e) (omega arith)
-  primitive_grows (suc (suc zero)) s d other e = rw (← some-injective (scalar (boolean false)) d e) (omega arith)
+  primitive_grows zero s d other e = rw (← same_Some null d e) (omega arith)
+  primitive_grows (suc zero) s d other e = rw (← same_Some (scalar (boolean true)) d e) (omega arith)
+  primitive_grows (suc (suc zero)) s d other e = rw (← same_Some (scalar (boolean false)) d e) (omega arith)
   primitive_grows (suc (suc (suc more))) s d other e =
       let type : ℕ = suc (suc (suc more)) in
-      rw (← some-injective (scalar (payload type s)) d (given_some _ (some (scalar (payload type s))) e).1, ne_eqb type 15 other) (omega arith)
+      rw (← same_Some (scalar (payload type s)) d (given_some _ (Some (scalar (payload type s))) e).1, ne_eqb type 15 other) (omega arith)
 
   prefixed_grows : (type : ℕ) (s : List ℕ) (b : Bool) → length (value_bytes used (prefixed_doc b type s)) ≤ 5 + length s
   unfolding value_bytes scalar_bytes
@@ -81,7 +83,7 @@ module _ (names used : Dictionary) (few : length used ≤ most_names) (decode : 
   behind_first : 1 + length (drop 1 s) ≡ length s
   behind_first = let some_bytes = (extent_some s (whole_extent s fills)).0 in rw length-drop (omega arith)
 
-  fixed_grows : (type size : ℕ) → reading_of (at s 0) ≡ Fixed type size → primitive_meaning type (drop 1 s) ≡ some d → Grown
+  fixed_grows : (type size : ℕ) → reading_of (at s 0) ≡ Fixed type size → primitive_meaning type (drop 1 s) ≡ Some d → Grown
   fixed_grows type size is e =
       let sizes = fixed_sizes (at s 0) is in
       let grown = primitive_grows used type (drop 1 s) d (never_marked type size sizes.1 sizes.2).0 e in
@@ -95,8 +97,8 @@ module _ (names used : Dictionary) (few : length used ≤ most_names) (decode : 
   short_size : (size : ℕ) → reading_of (at s 0) ≡ Short size → length (drop 1 s) ≤ 63
   unfolding extent_by
   short_size size is =
-      let by : some (1 + size) ≡ some (length s) = rw is at (extent_some s (whole_extent s fills)).1 in
-      let all : 1 + size ≡ length s = some-injective (1 + size) (length s) by in
+      let by : Some (1 + size) ≡ Some (length s) = rw is at (extent_some s (whole_extent s fills)).1 in
+      let all : 1 + size ≡ length s = same_Some (1 + size) (length s) by in
       let code : size ≡ at s 0 / 4 = short_sizes (at s 0) is in
       let byte : at s 0 < 256 = bytes 0 in
       rw length-drop (omega arith)
@@ -108,8 +110,8 @@ module _ (names used : Dictionary) (few : length used ≤ most_names) (decode : 
       let all = behind_first in
       omega arith
 
-  array_grows : (c w : ℕ) → reading_of (at s 0) ≡ ArrayHead c w → (children : List Child) → elements_of c w s ≡ some children → (ds : Docs)
-      → element_docs decode (area_of c 0 w s) children ≡ some ds → names_there used (array ds) ≡ true
+  array_grows : (c w : ℕ) → reading_of (at s 0) ≡ ArrayHead c w → (children : List Child) → elements_of c w s ≡ Some children → (ds : Docs)
+      → element_docs decode (area_of c 0 w s) children ≡ Some ds → names_there used (array ds) ≡ true
       → length (value_bytes used (array ds)) ≤ 2 * length s
   unfolding value_bytes names_there
   array_grows c w is children e ds f All-there =
@@ -122,8 +124,8 @@ module _ (names used : Dictionary) (few : length used ≤ most_names) (decode : 
       rw (array_length (element_bytes used ds))
       (container_grows s bytes short c 0 w spans bounds.0.0 bounds.1.0 children lie (element_bytes used ds) 0 grown (omega arith))
 
-  object_grows : (c i w : ℕ) → reading_of (at s 0) ≡ ObjectHead c i w → (children : List Child) → members_of names c i w s ≡ some children
-      → (fs : Fields) → member_docs decode (area_of c i w s) (names_at names (ids_of c i s)) children ≡ some fs → names_there used (object fs) ≡ true
+  object_grows : (c i w : ℕ) → reading_of (at s 0) ≡ ObjectHead c i w → (children : List Child) → members_of names c i w s ≡ Some children
+      → (fs : Fields) → member_docs decode (area_of c i w s) (names_at names (ids_of c i s)) children ≡ Some fs → names_there used (object fs) ≡ true
       → length (value_bytes used (object fs)) ≤ 2 * length s
   unfolding value_bytes names_there
   object_grows c i w is children e fs f All-there =
@@ -142,7 +144,7 @@ module _ (names used : Dictionary) (few : length used ≤ most_names) (decode : 
       (container_grows s bytes short c i w spans bounds.0.0 bounds.2.0 children lie (member_bytes used fs) (smallest_width (largest ids)) grown
       (omega arith))
 
-  grows_by : (r : Reading) → reading_of (at s 0) ≡ r → meaning_by decode names r s ≡ some d → Grown
+  grows_by : (r : Reading) → reading_of (at s 0) ≡ r → meaning_by decode names r s ≡ Some d → Grown
   unfolding meaning_by is_there
   grows_by (Fixed type size) is e = fixed_grows type size is e
   grows_by (Prefixed type) is e =
@@ -154,21 +156,21 @@ module _ (names used : Dictionary) (few : length used ≤ most_names) (decode : 
   grows_by (ObjectHead c i w) is e =
       let lie = then_some (members_of names c i w s) _ e in
       let inside = then_some (member_docs decode (area_of c i w s) (names_at names (ids_of c i s)) lie.0) _ lie.2 in
-      let same : object inside.0 ≡ d = some-injective (object inside.0) d inside.2 in
+      let same : object inside.0 ≡ d = same_Some (object inside.0) d inside.2 in
       let found : names_there used (object inside.0) ≡ true = ap (names_there used) same ∙ there in
       rw (← same) (object_grows c i w is lie.0 lie.1 inside.0 inside.1 found)
   grows_by (ArrayHead c w) is e =
       let lie = then_some (elements_of c w s) _ e in
       let inside = then_some (element_docs decode (area_of c 0 w s) lie.0) _ lie.2 in
-      let same : array inside.0 ≡ d = some-injective (array inside.0) d inside.2 in
+      let same : array inside.0 ≡ d = same_Some (array inside.0) d inside.2 in
       let found : names_there used (array inside.0) ≡ true = ap (names_there used) same ∙ there in
       rw (← same) (array_grows c w is lie.0 lie.1 inside.0 inside.1 found)
-  grows_by Nothing is e = never (sym (some_there none e))
+  grows_by Nothing is e = never (sym (some_there None e))
 
-pub value_grows : (levels : ℕ) (names used : Dictionary) (s : List ℕ) (d : Doc) → meaning_of levels names s ≡ some d → Bytes s → length s ≤ most_read
+pub value_grows : (levels : ℕ) (names used : Dictionary) (s : List ℕ) (d : Doc) → meaning_of levels names s ≡ Some d → Bytes s → length s ≤ most_read
     → names_there used d ≡ true → length used ≤ most_names → length (value_bytes used d) ≤ 2 * length s
 unfolding meaning_of is_there
-value_grows zero names used s d e bytes short there few = never (sym (some_there none e))
+value_grows zero names used s d e bytes short there few = never (sym (some_there None e))
 value_grows (suc levels) names used s d e bytes short there few =
     let told = given_some (whole s) _ e in
     grows_by names used few (meaning_of levels names) (λ t c b h m n. value_grows levels names used t c m b h n few) s d bytes short told.0 there
@@ -176,7 +178,7 @@ value_grows (suc levels) names used s d e bytes short there few =
 
 -- ---- the normal form of a lent document
 
-module _ (levels : ℕ) (names : Dictionary) (s : List ℕ) (d : Doc) (is : meaning_of levels names s ≡ some d) (bytes : Bytes s) where
+module _ (levels : ℕ) (names : Dictionary) (s : List ℕ) (d : Doc) (is : meaning_of levels names s ≡ Some d) (bytes : Bytes s) where
   pub normal_grows : length s ≤ most_read → length names ≤ most_names → length (normal_form d).value ≤ 2 * length s
   unfolding normal_form
   normal_grows short few =

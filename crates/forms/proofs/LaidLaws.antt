@@ -1,7 +1,7 @@
 -- A container as normal form lays it out: first byte, count, bytes of ids, offsets, parts. Each is found again where 01's
 -- definitions look for it. An array is the case of ids of no bytes.
+use Rattle.std.specs.Prelude.{Some}
 use mathlib.Core.List.{List, [], ◌∷◌, ◌++◌, append_assoc}
-use mathlib.Core.Option.{some}
 use mathlib.Core.Path.{◌≡◌, sym, ap, ◌∙◌}
 use Prim.Native.Nat.{ℕ, ◌+◌, ◌-◌, ◌*◌, ◌^◌, ◌≤◌, ◌<◌}
 use native.Mathlib.Nat.{suc-mul, zero-add}
@@ -90,7 +90,7 @@ module _ (first c i w : ℕ) (ids : List ℕ) (parts : List (List ℕ)) (id_size
           let place : head_size_of (length parts) c i w - w ≡ 1 + c + length parts * i + length parts * w = omega arith in
           rw (place, behind_starts) (number_back w (length (joined parts)) (joined parts) wide)
 
-      pub laid_extent : container_extent c i w s ≡ some (length s)
+      pub laid_extent : container_extent c i w s ≡ Some (length s)
       laid_extent =
           let all : length s ≡ head_size_of (length parts) c i w + length (joined parts) = laid_length in
           container_is s c i w

@@ -1,7 +1,7 @@
 -- The children of a lawful container: each is a part of the area, as long as it says, and together they are as long as it.
+use Rattle.std.specs.Prelude.{Some}
 use mathlib.Core.Bool.{Bool, true, false, ◌&&◌}
 use mathlib.Core.List.{List, [], ◌∷◌}
-use mathlib.Core.Option.{some, some-injective}
 use mathlib.Core.Path.{◌≡◌, refl, sym, ap, ◌∙◌}
 use Prim.Native.Nat.{ℕ, zero, suc, ◌+◌, ◌≤◌, ◌<◌}
 use native.Mathlib.Omega.{arith}
@@ -10,7 +10,8 @@ use lib.Dec.{ltb, lit<}
 use lib.ListN.{length, get_or, take, drop, length-take, length-drop, length-map, get_or-eq_default}
 use lib.Seq.{get_or-take, get_or-drop}
 use Rattle.paper.specs.Metadata.{Dictionary, rising}
-use Rattle.paper.specs.Values.{Child, child_extent, children_at, end_to_end, every_byte_once, child_bytes, area_of, starts_of, ids_of, names_at, elements_of, members_of}
+use Rattle.paper.specs.Values.{child_extent, children_at, end_to_end, every_byte_once, child_bytes, area_of, starts_of, ids_of, names_at, elements_of, members_of}
+use Rattle.paper.specs.declared.Child.{Child}
 use Rattle.paper.specs.Words.{given, and_then, numbers, all_below}
 use Rattle.containers.specs.Children.{sizes, once_in, tiled_in}
 use Rattle.paper.proofs.WordLaws.{given_some, then_some}
@@ -18,6 +19,7 @@ use Rattle.containers.proofs.ChildLaws.{AllSized, SizedIn, children_sized, exten
 use Rattle.containers.proofs.CoverLaws.{total_sizes, sum_of_once}
 use Rattle.containers.proofs.ShapeLaws.{tiled_is_once}
 use Rattle.containers.proofs.WalkLaws.{all_within}
+use Rattle.std.proofs.lemmas.Option.{same_Some}
 
 -- ---- bytes, and parts of them
 
@@ -37,7 +39,7 @@ bytes_take n s bytes i = go (ltb i n) refl
         let short : length (take n s) ≤ i = rw length-take (omega arith) in
         rw (get_or-eq_default (take n s) 0 short) (lit< tt)
 
-pub child_length : (area : List ℕ) (child : Child) → child_extent area child.start ≡ some child.size
+pub child_length : (area : List ℕ) (child : Child) → child_extent area child.start ≡ Some child.size
     → length (child_bytes area child) ≡ child.size
 unfolding child_bytes
 child_length area child e =
@@ -51,21 +53,21 @@ child_bytes_lem area child bytes = bytes_take child.size (drop child.start area)
 -- ---- how they lie
 
 pub record Lie (area starts : List ℕ) (children : List Child) : Type 0 where
-  pub are : children_at area starts ≡ some children
+  pub are : children_at area starts ≡ Some children
   pub once : every_byte_once (length area) children ≡ true
 
 -- What passed the test of how they lie.
 lie_by : (area starts : List ℕ) (b : Bool) (test : List Child → Bool) (children : List Child)
-    → given b (and_then (children_at area starts) λ found. given (test found) (some found)) ≡ some children
-    → (children_at area starts ≡ some children) × (test children ≡ true)
+    → given b (and_then (children_at area starts) λ found. given (test found) (Some found)) ≡ Some children
+    → (children_at area starts ≡ Some children) × (test children ≡ true)
 lie_by area starts b test children e =
     let first = given_some b _ e in
     let second = then_some (children_at area starts) _ first.1 in
-    let third = given_some (test second.0) (some second.0) second.2 in
-    let same : second.0 ≡ children = some-injective second.0 children third.1 in
+    let third = given_some (test second.0) (Some second.0) second.2 in
+    let same : second.0 ≡ children = same_Some second.0 children third.1 in
     (second.1 ∙ third.1, ap test (sym same) ∙ third.0)
 
-pub elements_lie : (s : List ℕ) (c w : ℕ) (children : List Child) → elements_of c w s ≡ some children
+pub elements_lie : (s : List ℕ) (c w : ℕ) (children : List Child) → elements_of c w s ≡ Some children
     → Lie (area_of c 0 w s) (starts_of c 0 w s) children
 unfolding elements_of tiled_in once_in
 elements_lie s c w children e =
@@ -75,7 +77,7 @@ elements_lie s c w children e =
     let tiled : tiled_in (length area) (children_at area starts) ≡ true = rw told.0 told.1 in
     record { are = told.0; once = rw told.0 at (tiled_is_once area starts tiled) }
 
-pub members_lie : (names : Dictionary) (s : List ℕ) (c i w : ℕ) (children : List Child) → members_of names c i w s ≡ some children
+pub members_lie : (names : Dictionary) (s : List ℕ) (c i w : ℕ) (children : List Child) → members_of names c i w s ≡ Some children
     → Lie (area_of c i w s) (starts_of c i w s) children
 unfolding members_of
 members_lie names s c i w children e =
@@ -86,7 +88,7 @@ members_lie names s c i w children e =
     record { are = told.0; once = told.1 }
 
 module _ {area starts : List ℕ} {children : List Child} (lie : Lie area starts children) where
-  sized : SizedIn area starts (some children)
+  sized : SizedIn area starts (Some children)
   sized = rw lie.are at (children_sized area starts)
 
   pub lie_sized : AllSized area children

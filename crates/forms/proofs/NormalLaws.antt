@@ -1,9 +1,9 @@
 -- Normal form: what it says of a document is read back whole, so two documents mean the same exactly when their normal
 -- forms are the same bytes; and what is in normal form is its own normal form.
+use Rattle.std.specs.Prelude.{Option, None, Some, Ok}
 use mathlib.Core.Bool.{Bool, true, false, ◌&&◌}
 use mathlib.Core.List.{List}
 use mathlib.Core.Logic.{◌↔◌}
-use mathlib.Core.Option.{Option, none, some, some-injective}
 use mathlib.Core.Path.{◌≡◌, refl, sym, ap, ◌∙◌}
 use Prim.Native.Nat.{ℕ, ◌+◌, ◌*◌, ◌^◌, ◌≤◌, ◌<◌}
 use native.Mathlib.Nat.{mul-le-mul, mul-one}
@@ -17,7 +17,7 @@ use Rattle.paper.specs.Meaning.{Doc}
 use Rattle.paper.specs.Metadata.{Dictionary, dictionary_of}
 use Rattle.paper.specs.Normal.{names_used, metadata_width, metadata_bytes, value_bytes, Document, normal_form}
 use Rattle.paper.specs.Operations.{judged, document_fits, check_outcome, written, normalise_outcome, value_judged, writable}
-use Rattle.paper.specs.Refusals.{Outcome, reached, require, obtain}
+use Rattle.paper.specs.Refusals.{Outcome, require, obtain}
 use Rattle.paper.specs.Values.{meaning_of}
 use Rattle.paper.specs.Words.{joined}
 use Rattle.paper.specs.declared.Refusal.{Refusal}
@@ -28,6 +28,7 @@ use Rattle.names.proofs.MetadataLaws.{metadata_length, metadata_back, width_boun
 use Rattle.names.proofs.NeverLongerLaws.{never_longer}
 use Rattle.names.proofs.UsedLaws.{names_rise, among_used}
 use Rattle.paper.proofs.WordLaws.{and_both}
+use Rattle.std.proofs.lemmas.Option.{same_Some}
 
 -- A document that normal form can hold: within so many levels, its value no longer than a value may be, its names few and
 -- short enough for offsets of four bytes.
@@ -51,7 +52,7 @@ short_writable levels d good value_fits metadata_fits =
     record { good = good; value_fits = value_fits; names_few = omega arith; names_short = omega arith }
 
 module _ (levels : ℕ) (d : Doc) (writable : Writable levels d) where
-  pub normal_back : (dictionary_of (normal_form d).metadata ≡ some (names_used d)) × (meaning_of levels (names_used d) (normal_form d).value ≡ some d)
+  pub normal_back : (dictionary_of (normal_form d).metadata ≡ Some (names_used d)) × (meaning_of levels (names_used d) (normal_form d).value ≡ Some d)
   unfolding normal_form
   normal_back =
       let few = writable.names_few in (
@@ -68,24 +69,24 @@ same_normal levels a b writable-a writable-b = (equal, ap normal_form)
         let back_a = normal_back levels a writable-a in
         let back-b = normal_back levels b writable-b in
         let names : names_used a ≡ names_used b =
-        some-injective (names_used a) (names_used b) (sym back_a.0 ∙ ap (λ (n : Document). dictionary_of n.metadata) e ∙ back-b.0) in
-        let value : meaning_of levels (names_used a) (normal_form a).value ≡ some b =
+        same_Some (names_used a) (names_used b) (sym back_a.0 ∙ ap (λ (n : Document). dictionary_of n.metadata) e ∙ back-b.0) in
+        let value : meaning_of levels (names_used a) (normal_form a).value ≡ Some b =
         rw (names, e) back-b.1 in
-        some-injective a b (sym back_a.1 ∙ value)
+        same_Some a b (sym back_a.1 ∙ value)
 
 -- ---- what is accepted
 
-pub require_reached : {A : Type 0} (refusal : Refusal) (b : Bool) (next : Outcome A) {a : A} → require b refusal next ≡ reached a
-    → (b ≡ true) × (next ≡ reached a)
+pub require_reached : {A : Type 0} (refusal : Refusal) (b : Bool) (next : Outcome A) {a : A} → require b refusal next ≡ Ok a
+    → (b ≡ true) × (next ≡ Ok a)
 unfolding require
 require_reached refusal true next e = (refl, e)
 require_reached refusal false next e = absurd (let z : ◌≡◌ {A = ℕ} 0 1 = cc in omega arith)
 
-pub obtain_reached : {A B : Type 0} (refusal : Refusal) (x : Option A) (next : A → Outcome B) {b : B} → obtain x refusal next ≡ reached b
-    → (a : A) × (x ≡ some a) × (next a ≡ reached b)
+pub obtain_reached : {A B : Type 0} (refusal : Refusal) (x : Option A) (next : A → Outcome B) {b : B} → obtain x refusal next ≡ Ok b
+    → (a : A) × (x ≡ Some a) × (next a ≡ Ok b)
 unfolding obtain
-obtain_reached refusal none next e = absurd (let z : ◌≡◌ {A = ℕ} 0 1 = cc in omega arith)
-obtain_reached refusal (some a) next e = (a, refl, e)
+obtain_reached refusal None next e = absurd (let z : ◌≡◌ {A = ℕ} 0 1 = cc in omega arith)
+obtain_reached refusal (Some a) next e = (a, refl, e)
 
 -- What `normalise` has seen of a document that it accepts.
 pub record Accepted (metadata value : List ℕ) (n : Document) : Type 0 where
@@ -93,12 +94,12 @@ pub record Accepted (metadata value : List ℕ) (n : Document) : Type 0 where
   pub d : Doc
   pub metadata_fits : length metadata ≤ most_metadata
   pub value_fits : length value ≤ most_value
-  pub metadata_is : dictionary_of metadata ≡ some names
-  pub value_is : meaning_of most_levels names value ≡ some d
+  pub metadata_is : dictionary_of metadata ≡ Some names
+  pub value_is : meaning_of most_levels names value ≡ Some d
   pub written_fits : length (value_bytes (names_used d) d) ≤ most_value
   pub written_is : normal_form d ≡ n
 
-pub accepted : (metadata value : List ℕ) (n : Document) → normalise_outcome metadata value ≡ reached n → Accepted metadata value n
+pub accepted : (metadata value : List ℕ) (n : Document) → normalise_outcome metadata value ≡ Ok n → Accepted metadata value n
 unfolding normalise_outcome judged value_judged written writable document_fits normal_form
 accepted metadata value n e =
     let first = require_reached _ (leb (length metadata) most_metadata && leb (length value) most_value) _ e in
@@ -119,7 +120,7 @@ accepted metadata value n e =
     }
 
 -- The other way round: a document that keeps all of that is accepted.
-pub accepts : (metadata value : List ℕ) (n : Document) → Accepted metadata value n → normalise_outcome metadata value ≡ reached n
+pub accepts : (metadata value : List ℕ) (n : Document) → Accepted metadata value n → normalise_outcome metadata value ≡ Ok n
 unfolding normalise_outcome judged value_judged written writable document_fits normal_form require obtain
 accepts metadata value n a =
     rw (
@@ -128,7 +129,7 @@ accepts metadata value n a =
       a.metadata_is,
       a.value_is,
       le-leb (length (value_bytes (names_used a.d) a.d)) most_value a.written_fits,
-    ) (ap reached a.written_is)
+    ) (ap Ok a.written_is)
 
 module _ (metadata value : List ℕ) (n : Document) (a : Accepted metadata value n) (bytes : (i : ℕ) → get_or metadata i 0 < 256) where
   abbrev used : Dictionary
@@ -167,33 +168,33 @@ module _ (metadata value : List ℕ) (n : Document) (a : Accepted metadata value
   accepted_again : Accepted n.metadata n.value n
   accepted_again = rw a.written_is at normal_accepted
 
-pub normal_again : (metadata value : List ℕ) (n : Document) → ((i : ℕ) → get_or metadata i 0 < 256) → normalise_outcome metadata value ≡ reached n
-    → normalise_outcome n.metadata n.value ≡ reached n
+pub normal_again : (metadata value : List ℕ) (n : Document) → ((i : ℕ) → get_or metadata i 0 < 256) → normalise_outcome metadata value ≡ Ok n
+    → normalise_outcome n.metadata n.value ≡ Ok n
 normal_again metadata value n bytes e =
     accepts n.metadata n.value n (accepted_again metadata value n (accepted metadata value n e) bytes)
 
 -- ---- lent documents: the same normal form exactly when they mean the same
 
-pub accepted_means : (metadata value : List ℕ) (n : Document) (a : Accepted metadata value n) → check_outcome metadata value ≡ reached a.d
+pub accepted_means : (metadata value : List ℕ) (n : Document) (a : Accepted metadata value n) → check_outcome metadata value ≡ Ok a.d
 unfolding check_outcome document_fits judged value_judged require obtain
 accepted_means metadata value n a =
     rw (le-leb (length metadata) most_metadata a.metadata_fits, le-leb (length value) most_value a.value_fits, a.metadata_is, a.value_is)
 
 -- What is in normal form means the same.
 pub normal_means : (metadata value : List ℕ) (n : Document) (a : Accepted metadata value n) → ((i : ℕ) → get_or metadata i 0 < 256)
-    → check_outcome n.metadata n.value ≡ reached a.d
+    → check_outcome n.metadata n.value ≡ Ok a.d
 unfolding normal_accepted
 normal_means metadata value n a bytes =
     let form : Document = normal_form a.d in
     ap (λ (f : Document). check_outcome f.metadata f.value) (sym a.written_is)
     ∙ accepted_means form.metadata form.value form (normal_accepted metadata value n a bytes)
 
-pub same_reached : {a b : Doc} → ◌≡◌ {A = Outcome Doc} (reached a) (reached b) → a ≡ b
+pub same_reached : {a b : Doc} → ◌≡◌ {A = Outcome Doc} (Ok a) (Ok b) → a ≡ b
 same_reached e = cc
 
 pub same_meaning : (metadata value metadata' value' : List ℕ) → ((i : ℕ) → get_or metadata i 0 < 256) → ((i : ℕ) → get_or metadata' i 0 < 256)
-    → (n n' : Document) → normalise_outcome metadata value ≡ reached n → normalise_outcome metadata' value' ≡ reached n'
-    → (d d' : Doc) → check_outcome metadata value ≡ reached d → check_outcome metadata' value' ≡ reached d' → (n ≡ n') ↔ (d ≡ d')
+    → (n n' : Document) → normalise_outcome metadata value ≡ Ok n → normalise_outcome metadata' value' ≡ Ok n'
+    → (d d' : Doc) → check_outcome metadata value ≡ Ok d → check_outcome metadata' value' ≡ Ok d' → (n ≡ n') ↔ (d ≡ d')
 same_meaning metadata value metadata' value' bytes bytes' n n' e e' d d' means means' =
     let a : Accepted metadata value n = accepted metadata value n e in
     let b : Accepted metadata' value' n' = accepted metadata' value' n' e' in
@@ -204,7 +205,7 @@ same_meaning metadata value metadata' value' bytes bytes' n n' e e' d d' means m
     rw (a.written_is, b.written_is, first, second) at same
 
 -- A lent document that check accepts comes to what is written of its meaning: its normal form, or refusal 8.
-pub accepted_written : (metadata value : List ℕ) (d : Doc) → check_outcome metadata value ≡ reached d → normalise_outcome metadata value ≡ written d
+pub accepted_written : (metadata value : List ℕ) (d : Doc) → check_outcome metadata value ≡ Ok d → normalise_outcome metadata value ≡ written d
 unfolding check_outcome normalise_outcome judged value_judged require obtain
 accepted_written metadata value d e =
     let first = require_reached _ (document_fits metadata value) _ e in
@@ -213,7 +214,7 @@ accepted_written metadata value d e =
     rw (first.0, second.1, third.1) (ap written (same_reached third.2))
 
 -- So documents that mean the same have the same outcome, refusal 8 too.
-pub same_outcome : (metadata value metadata' value' : List ℕ) (d d' : Doc) → check_outcome metadata value ≡ reached d
-    → check_outcome metadata' value' ≡ reached d' → d ≡ d' → normalise_outcome metadata value ≡ normalise_outcome metadata' value'
+pub same_outcome : (metadata value metadata' value' : List ℕ) (d d' : Doc) → check_outcome metadata value ≡ Ok d
+    → check_outcome metadata' value' ≡ Ok d' → d ≡ d' → normalise_outcome metadata value ≡ normalise_outcome metadata' value'
 same_outcome metadata value metadata' value' d d' means means' same =
     accepted_written metadata value d means ∙ ap written same ∙ sym (accepted_written metadata' value' d' means')

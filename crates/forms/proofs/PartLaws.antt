@@ -1,7 +1,7 @@
 -- Parts that are written end to end, each one value: the children found at their starts are the parts.
+use Rattle.std.specs.Prelude.{Some}
 use mathlib.Core.Bool.{true}
 use mathlib.Core.List.{List, [], ◌∷◌, ◌++◌, append_assoc}
-use mathlib.Core.Option.{some}
 use mathlib.Core.Path.{◌≡◌, refl, sym, ap, ◌∙◌}
 use Prim.Native.Nat.{ℕ, suc, ◌+◌, ◌<◌}
 use native.Mathlib.Nat.{zero-add, add_assoc}
@@ -11,7 +11,8 @@ use lib.ListN.{length, drop, length-append}
 use lib.Seq.{drop-append_seam, take-append_seam}
 use Rattle.numbers.specs.Little.{number_bytes}
 use Rattle.paper.specs.Normal.{offsets_from, numbers_bytes}
-use Rattle.paper.specs.Values.{Child, child_extent, children_at, end_to_end, every_byte_once, child_bytes}
+use Rattle.paper.specs.Values.{child_extent, children_at, end_to_end, every_byte_once, child_bytes}
+use Rattle.paper.specs.declared.Child.{Child}
 use Rattle.paper.specs.Words.{given, and_then, is_there, all_below, joined}
 use Rattle.containers.specs.Children.{once_in, tiled_in}
 use Rattle.forms.proofs.ScalarLaws.{Filled}
@@ -69,7 +70,7 @@ module _ (front one : List ℕ) (more : List (List ℕ)) where
   unfolding child_bytes
   part_bytes = rw here (take-append_seam one (joined more))
 
-  part_extent : Filled one → child_extent whole (length front) ≡ some (length one)
+  part_extent : Filled one → child_extent whole (length front) ≡ Some (length one)
   unfolding child_extent and_then given
   part_extent fills =
       let size : length whole ≡ length front + (length one + length (joined more)) = length-append front (one ++ joined more) ∙ rw length-append in
@@ -80,12 +81,12 @@ module _ (front one : List ℕ) (more : List (List ℕ)) where
   further = sym (append_assoc front one (joined more))
 
 pub children_back : (front : List ℕ) (parts : List (List ℕ)) → AllFilled parts
-    → children_at (front ++ joined parts) (starts_from (length front) parts) ≡ some (children_from (length front) parts)
+    → children_at (front ++ joined parts) (starts_from (length front) parts) ≡ Some (children_from (length front) parts)
 unfolding AllFilled starts_from children_from joined children_at and_then
 children_back front [] all = refl
 children_back front (one ∷ more) all =
     let rest : children_at (front ++ (one ++ joined more)) (starts_from (length front + length one) more)
-    ≡ some (children_from (length front + length one) more) =
+    ≡ Some (children_from (length front + length one) more) =
     rw (further front one more, ← length-append front one) (children_back (front ++ one) more all.1) in
     rw (part_extent front one more all.0, rest)
 
@@ -96,7 +97,7 @@ tiled_from start (one ∷ more) = rw (eq-eqb start start refl, length-append, �
 
 -- From the start of an area.
 module _ (parts : List (List ℕ)) (all : AllFilled parts) where
-  pub parts_children : children_at (joined parts) (starts_from 0 parts) ≡ some (children_from 0 parts)
+  pub parts_children : children_at (joined parts) (starts_from 0 parts) ≡ Some (children_from 0 parts)
   parts_children = children_back [] parts all
 
   pub parts_below : all_below (length (joined parts)) (starts_from 0 parts) ≡ true

@@ -1,7 +1,7 @@
 -- Scalars and null that are written: each says how long it is, and means what was written.
+use Rattle.std.specs.Prelude.{Some}
 use mathlib.Core.Bool.{Bool, true, false, cond, not, ◌&&◌, ◌||◌}
 use mathlib.Core.List.{List, [], ◌∷◌, ◌++◌}
-use mathlib.Core.Option.{some}
 use mathlib.Core.Path.{◌≡◌, refl, ap, ◌∙◌}
 use Prim.Native.Nat.{ℕ, zero, suc, ◌+◌, ◌*◌, ◌^◌, ◌≤◌, ◌<◌}
 use native.Mathlib.Omega.{arith}
@@ -27,7 +27,7 @@ use Rattle.paper.proofs.WordLaws.{and_both, given_passed}
 
 -- Bytes that are one value, as long as it says.
 abbrev pub Filled : List ℕ → Type 0
-Filled s = extent s ≡ some (length s)
+Filled s = extent s ≡ Some (length s)
 
 pub filled_whole : (s : List ℕ) → Filled s → whole s ≡ true
 unfolding whole ends_at
@@ -40,7 +40,7 @@ unfolding meaning_of
 filled_meaning levels names s r fills is =
     given_passed (whole s) _ (filled_whole s fills) ∙ ap (λ (q : Reading). meaning_by (meaning_of levels names) names q s) is
 
-filled_by : (first : ℕ) (s : List ℕ) (r : Reading) → reading_of first ≡ r → extent_by r (first ∷ s) ≡ some (suc (length s)) → Filled (first ∷ s)
+filled_by : (first : ℕ) (s : List ℕ) (r : Reading) → reading_of first ≡ r → extent_by r (first ∷ s) ≡ Some (suc (length s)) → Filled (first ∷ s)
 unfolding extent
 filled_by first s r is e = rw is e
 
@@ -50,13 +50,13 @@ pub fixed_filled : (type : ℕ) (s : List ℕ) → type ≤ 20 → (type ≡ 15 
     → Filled ((4 * type) ∷ s)
 unfolding extent_by
 fixed_filled type s most binary string size =
-    filled_by (4 * type) s _ (fixed_reading type most binary string) (ap some (omega arith))
+    filled_by (4 * type) s _ (fixed_reading type most binary string) (ap Some (omega arith))
 
 short_filled : (s : List ℕ) → Filled ((4 * length s + 1) ∷ s)
 unfolding extent_by
-short_filled s = filled_by (4 * length s + 1) s _ (short_reading (length s)) (ap some (omega arith))
+short_filled s = filled_by (4 * length s + 1) s _ (short_reading (length s)) (ap Some (omega arith))
 
-short_back : (levels : ℕ) (names : Dictionary) (s : List ℕ) → meaning_of (suc levels) names ((4 * length s + 1) ∷ s) ≡ some (scalar (text s))
+short_back : (levels : ℕ) (names : Dictionary) (s : List ℕ) → meaning_of (suc levels) names ((4 * length s + 1) ∷ s) ≡ Some (scalar (text s))
 unfolding meaning_by
 short_back levels names s =
     filled_meaning levels names ((4 * length s + 1) ∷ s) (Short (length s)) (short_filled s) (short_reading (length s)) ∙ string_back s
@@ -77,14 +77,14 @@ module _ (type : ℕ) (s : List ℕ) (is : reading_of (4 * type) ≡ Prefixed ty
       let size : length (number_bytes 4 (length s) ++ s) ≡ 4 + length s = length-append (number_bytes 4 (length s)) s ∙ rw length-number_bytes in
       let back : number_at (number_bytes 4 (length s) ++ s) 0 4 ≡ length s = number_back 4 (length s) s small in
       filled_by (4 * type) (number_bytes 4 (length s) ++ s) (Prefixed type) is
-      (rw (le-leb 5 (suc (length (number_bytes 4 (length s) ++ s))) (omega arith), back) (ap some (omega arith)))
+      (rw (le-leb 5 (suc (length (number_bytes 4 (length s) ++ s))) (omega arith), back) (ap Some (omega arith)))
 
   prefixed_behind : drop 5 (prefixed_bytes type s) ≡ s
   unfolding prefixed_bytes
   prefixed_behind = drop_at (number_bytes 4 (length s)) s 4 (length-number_bytes 4 (length s))
 
   module _ (levels : ℕ) (names : Dictionary) where
-    prefixed_read : meaning_of (suc levels) names (prefixed_bytes type s) ≡ some (prefixed_doc (eqb type 16) type s)
+    prefixed_read : meaning_of (suc levels) names (prefixed_bytes type s) ≡ Some (prefixed_doc (eqb type 16) type s)
     unfolding meaning_by
     prefixed_read =
         filled_meaning levels names (prefixed_bytes type s) (Prefixed type) prefixed_filled (unfold prefixed_bytes in is)
@@ -117,7 +117,7 @@ payload_parts type s good =
     }
 
 primitive_back : (type : ℕ) (s : List ℕ) → 3 ≤ type → not (leb 8 type && leb type 10) || leb (at s 0) 38 ≡ true
-    → primitive_meaning type s ≡ some (scalar (payload type s))
+    → primitive_meaning type s ≡ Some (scalar (payload type s))
 unfolding primitive_meaning
 primitive_back zero s least scale = absurd (omega arith)
 primitive_back (suc zero) s least scale = absurd (omega arith)
@@ -126,7 +126,7 @@ primitive_back (suc (suc (suc more))) s least scale = given_passed _ _ scale
 
 -- Bytes that are one value and mean a document, at one level or more.
 abbrev pub Written : Dictionary → List ℕ → Doc → Type 0
-Written names s d = Filled s × ((levels : ℕ) → meaning_of (suc levels) names s ≡ some d)
+Written names s d = Filled s × ((levels : ℕ) → meaning_of (suc levels) names s ≡ Some d)
 
 module _ (names : Dictionary) where
   pub null_written : Written names (0 ∷ []) null
@@ -163,7 +163,7 @@ module _ (names : Dictionary) where
           let size : length s < 2 ^ 32 = prefixed_small type s h in
           let no_text : eqb type 16 ≡ false = rw binary in (
             prefixed_filled type s is size,
-            λ levels. prefixed_read type s is size levels names ∙ ap (λ (b : Bool). some (prefixed_doc b type s)) no_text,
+            λ levels. prefixed_read type s is size levels names ∙ ap (λ (b : Bool). Some (prefixed_doc b type s)) no_text,
           )
       go false e h parts =
           let binary : type ≡ 15 → ⊥ = eqb-false type 15 e in

@@ -1,9 +1,9 @@
 -- What bytes mean passes each test of documents that is closed: that passes null, good scalars, arrays whose elements pass
 -- it one level further in, and objects with names of the dictionary that rise and members that pass it. So it is well
 -- formed, and the dictionary has its names.
+use Rattle.std.specs.Prelude.{Option, None, Some}
 use mathlib.Core.Bool.{Bool, true, false, not, ◌&&◌, ◌||◌}
 use mathlib.Core.List.{List, [], ◌∷◌}
-use mathlib.Core.Option.{Option, none, some, some-injective}
 use mathlib.Core.Path.{◌≡◌, refl, sym, ap, ◌∙◌}
 use Prim.Native.Nat.{ℕ, zero, suc, ◌+◌, ◌≤◌}
 use native.Mathlib.Omega.{arith}
@@ -16,7 +16,8 @@ use Rattle.paper.specs.FirstBytes.{length_prefixed, payload_sizes, reading_of}
 use Rattle.paper.specs.Meaning.{Scalar, boolean, payload, text, Doc, null, scalar, array, object, Docs, no_docs, doc, Fields, no_fields, field}
 use Rattle.paper.specs.Metadata.{Dictionary, rising}
 use Rattle.paper.specs.Normal.{field_names}
-use Rattle.paper.specs.Values.{Child, child_bytes, extent_by, area_of, ids_of, names_at, members_of, elements_of, primitive_meaning, element_docs, member_docs, meaning_by, meaning_of, whole}
+use Rattle.paper.specs.Values.{child_bytes, extent_by, area_of, ids_of, names_at, members_of, elements_of, primitive_meaning, element_docs, member_docs, meaning_by, meaning_of, whole}
+use Rattle.paper.specs.declared.Child.{Child}
 use Rattle.paper.specs.Words.{at, is_there, all_below, among}
 use Rattle.paper.specs.declared.Reading.TheVariants.{Fixed, Prefixed, Short, ObjectHead, ArrayHead, Nothing}
 use Rattle.paper.specs.declared.Reading.{Reading}
@@ -25,6 +26,7 @@ use Rattle.heads.proofs.ReadingLaws.{fixed_sizes, prefixed_sizes}
 use Rattle.names.proofs.SameLaws.{or_second, among_at}
 use Rattle.paper.proofs.WordLaws.{never, given_some, then_some, and_both, some_there}
 use Rattle.values.proofs.PrimitiveLaws.{whole_extent}
+use Rattle.std.proofs.lemmas.Option.{same_Some}
 
 -- ---- scalars
 
@@ -44,8 +46,8 @@ never_marked type size most same = (λ e. go 15 e refl, λ e. go 16 e refl)
 pub fixed_length : (s : List ℕ) (type size : ℕ) → whole s ≡ true → reading_of (at s 0) ≡ Fixed type size → length (drop 1 s) ≡ size
 unfolding extent_by
 fixed_length s type size fills is =
-    let by : some (1 + size) ≡ some (length s) = rw is at (extent_some s (whole_extent s fills)).1 in
-    let all : 1 + size ≡ length s = some-injective (1 + size) (length s) by in
+    let by : Some (1 + size) ≡ Some (length s) = rw is at (extent_some s (whole_extent s fills)).1 in
+    let all : 1 + size ≡ length s = same_Some (1 + size) (length s) by in
     rw length-drop (omega arith)
 
 -- ---- a closed test
@@ -59,17 +61,17 @@ pub record Closed (names : Dictionary) (inner outer : Doc → Bool) : Type 0 whe
 
 module _ {names : Dictionary} {inner outer : Doc → Bool} (closed : Closed names inner outer) where
   primitive_passes : (type : ℕ) (s : List ℕ) (d : Doc) → type ≤ 20 → (type ≡ 16 → ⊥) → length s ≡ get_or payload_sizes type 0
-      → primitive_meaning type s ≡ some d → outer d ≡ true
+      → primitive_meaning type s ≡ Some d → outer d ≡ true
   unfolding primitive_meaning scalar_good
-  primitive_passes zero s d most other size e = rw (← some-injective null d e) closed.nothing
-  primitive_passes (suc zero) s d most other size e = rw (← some-injective (scalar (boolean true)) d e) (closed.scalars (boolean true) refl)
-  primitive_passes (suc (suc zero)) s d most other size e = rw (← some-injective (scalar (boolean false)) d e) (closed.scalars (boolean false) refl)
+  primitive_passes zero s d most other size e = rw (← same_Some null d e) closed.nothing
+  primitive_passes (suc zero) s d most other size e = rw (← same_Some (scalar (boolean true)) d e) (closed.scalars (boolean true) refl)
+  primitive_passes (suc (suc zero)) s d most other size e = rw (← same_Some (scalar (boolean false)) d e) (closed.scalars (boolean false) refl)
   primitive_passes (suc (suc (suc more))) s d most other size e =
       let type : ℕ = suc (suc (suc more)) in
-      let told = given_some (not (leb 8 type && leb type 10) || leb (at s 0) 38) (some (scalar (payload type s))) e in
+      let told = given_some (not (leb 8 type && leb type 10) || leb (at s 0) 38) (Some (scalar (payload type s))) e in
       let sized : eqb type 15 || eqb (length s) (get_or payload_sizes type 0) ≡ true =
       or_second (eqb type 15) (eqb (length s) (get_or payload_sizes type 0)) (eq-eqb (length s) (get_or payload_sizes type 0) size) in
-      rw (← some-injective (scalar (payload type s)) d told.1)
+      rw (← same_Some (scalar (payload type s)) d told.1)
       (closed.scalars (payload type s) (payload_good type s (omega arith) most other sized told.0))
 
   prefixed_passes : (type : ℕ) (s : List ℕ) (b : Bool) → eqb type 16 ≡ b → 15 ≤ type → type ≤ 16 → outer (prefixed_doc b type s) ≡ true
@@ -84,29 +86,29 @@ module _ {names : Dictionary} {inner outer : Doc → Bool} (closed : Closed name
 -- ---- the insides of containers
 
 module _ (decode : List ℕ → Option Doc) (inner : Doc → Bool)
-    (each : (s : List ℕ) (d : Doc) → decode s ≡ some d → inner d ≡ true) (area : List ℕ) where
-  elements_pass : (children : List Child) (ds : Docs) → element_docs decode area children ≡ some ds → all_docs inner ds ≡ true
+    (each : (s : List ℕ) (d : Doc) → decode s ≡ Some d → inner d ≡ true) (area : List ℕ) where
+  elements_pass : (children : List Child) (ds : Docs) → element_docs decode area children ≡ Some ds → all_docs inner ds ≡ true
   unfolding element_docs all_docs
-  elements_pass [] ds e = rw (← some-injective no_docs ds e)
+  elements_pass [] ds e = rw (← same_Some no_docs ds e)
   elements_pass (child ∷ more) ds e =
       let first = then_some (decode (child_bytes area child)) _ e in
       let rest = then_some (element_docs decode area more) _ first.2 in
-      rw (← some-injective (doc first.0 rest.0) ds rest.2)
+      rw (← same_Some (doc first.0 rest.0) ds rest.2)
       (simp (each (child_bytes area child) first.0 first.1, elements_pass more rest.0 rest.1))
 
-  members_pass : (names : List (List ℕ)) (children : List Child) (fs : Fields) → member_docs decode area names children ≡ some fs
+  members_pass : (names : List (List ℕ)) (children : List Child) (fs : Fields) → member_docs decode area names children ≡ Some fs
       → (field_names fs ≡ names) × (all_members inner fs ≡ true)
   unfolding member_docs all_members field_names is_there
-  members_pass [] children fs e = rw (← some-injective no_fields fs e) (refl, refl)
-  members_pass (name ∷ names) [] fs e = never (sym (some_there none e))
+  members_pass [] children fs e = rw (← same_Some no_fields fs e) (refl, refl)
+  members_pass (name ∷ names) [] fs e = never (sym (some_there None e))
   members_pass (name ∷ names) (child ∷ more) fs e =
       let first = then_some (decode (child_bytes area child)) _ e in
       let rest = then_some (member_docs decode area names more) _ first.2 in
       let both = members_pass names more rest.0 rest.1 in
-      rw (← some-injective (field name first.0 rest.0) fs rest.2)
+      rw (← same_Some (field name first.0 rest.0) fs rest.2)
       (ap (λ (l : List (List ℕ)). name ∷ l) both.0, simp (each (child_bytes area child) first.0 first.1, both.1))
 
-members_named : (names : Dictionary) (s : List ℕ) (c i w : ℕ) (children : List Child) → members_of names c i w s ≡ some children
+members_named : (names : Dictionary) (s : List ℕ) (c i w : ℕ) (children : List Child) → members_of names c i w s ≡ Some children
     → (all_below (length names) (ids_of c i s) ≡ true) × (rising (names_at names (ids_of c i s)) ≡ true)
 unfolding members_of
 members_named names s c i w children e = and_both (all_below (length names) (ids_of c i s)) (rising (names_at names (ids_of c i s))) (given_some _ _ e).0
@@ -114,8 +116,8 @@ members_named names s c i w children e = and_both (all_below (length names) (ids
 -- ---- any value, by its reading
 
 module _ (decode : List ℕ → Option Doc) (names : Dictionary) (inner outer : Doc → Bool) (closed : Closed names inner outer)
-    (each : (s : List ℕ) (d : Doc) → decode s ≡ some d → inner d ≡ true) (s : List ℕ) (d : Doc) (fills : whole s ≡ true) where
-  meant_passes : (r : Reading) → reading_of (at s 0) ≡ r → meaning_by decode names r s ≡ some d → outer d ≡ true
+    (each : (s : List ℕ) (d : Doc) → decode s ≡ Some d → inner d ≡ true) (s : List ℕ) (d : Doc) (fills : whole s ≡ true) where
+  meant_passes : (r : Reading) → reading_of (at s 0) ≡ r → meaning_by decode names r s ≡ Some d → outer d ≡ true
   unfolding meaning_by is_there
   meant_passes (Fixed type size) is e =
       let sizes = fixed_sizes (at s 0) is in
@@ -132,19 +134,19 @@ module _ (decode : List ℕ → Option Doc) (names : Dictionary) (inner outer : 
       let inside = then_some (member_docs decode (area_of c i w s) (names_at names (ids_of c i s)) lie.0) _ lie.2 in
       let both = members_pass decode inner each (area_of c i w s) (names_at names (ids_of c i s)) lie.0 inside.0 inside.1 in
       let named = members_named names s c i w lie.0 lie.1 in
-      rw (← some-injective (object inside.0) d inside.2)
+      rw (← same_Some (object inside.0) d inside.2)
       (closed.objects (ids_of c i s) inside.0 both.0 named.0 (rw both.0 named.1) both.1)
   meant_passes (ArrayHead c w) is e =
       let lie = then_some (elements_of c w s) _ e in
       let inside = then_some (element_docs decode (area_of c 0 w s) lie.0) _ lie.2 in
-      rw (← some-injective (array inside.0) d inside.2)
+      rw (← same_Some (array inside.0) d inside.2)
       (closed.arrays inside.0 (elements_pass decode inner each (area_of c 0 w s) lie.0 inside.0 inside.1))
-  meant_passes Nothing is e = never (sym (some_there none e))
+  meant_passes Nothing is e = never (sym (some_there None e))
 
 pub decoded_passes : (names : Dictionary) (test : ℕ → Doc → Bool) → ((levels : ℕ) → Closed names (test levels) (test (suc levels)))
-    → (levels : ℕ) (s : List ℕ) (d : Doc) → meaning_of levels names s ≡ some d → test levels d ≡ true
+    → (levels : ℕ) (s : List ℕ) (d : Doc) → meaning_of levels names s ≡ Some d → test levels d ≡ true
 unfolding meaning_of is_there
-decoded_passes names test closed zero s d e = never (sym (some_there none e))
+decoded_passes names test closed zero s d e = never (sym (some_there None e))
 decoded_passes names test closed (suc levels) s d e =
     let told = given_some (whole s) _ e in
     meant_passes (meaning_of levels names) names (test levels) (test (suc levels)) (closed levels)
@@ -167,7 +169,7 @@ well_formed-closed names levels =
       objects = λ ids fs are below rise all. object_passes (well_formed levels) fs rise all;
     }
 
-pub decoded-well_formed : (levels : ℕ) (names : Dictionary) (s : List ℕ) (d : Doc) → meaning_of levels names s ≡ some d → well_formed levels d ≡ true
+pub decoded-well_formed : (levels : ℕ) (names : Dictionary) (s : List ℕ) (d : Doc) → meaning_of levels names s ≡ Some d → well_formed levels d ≡ true
 decoded-well_formed levels names s d e = decoded_passes names well_formed (well_formed-closed names) levels s d e
 
 -- ---- the dictionary has its names
@@ -194,7 +196,7 @@ module _ (names : Dictionary) where
       let own : among name names ≡ true = rw is (among_at names id (ltb-true id (length names) first.0)) in
       simp (own, both.0, fields_there ids fs rest first.1 both.1)
 
-pub decoded-names_there : (levels : ℕ) (names : Dictionary) (s : List ℕ) (d : Doc) → meaning_of levels names s ≡ some d → names_there names d ≡ true
+pub decoded-names_there : (levels : ℕ) (names : Dictionary) (s : List ℕ) (d : Doc) → meaning_of levels names s ≡ Some d → names_there names d ≡ true
 unfolding names_there
 decoded-names_there levels names s d e =
     decoded_passes names (λ (l : ℕ). names_there names)

@@ -1,8 +1,8 @@
 -- A container that is written, against one that was read: its head is at most twice as long where ids and offsets take two
 -- bytes at most, and its parts come to at most twice the area.
+use Rattle.std.specs.Prelude.{Option, None, Some}
 use mathlib.Core.Bool.{Bool, true, false, cond}
 use mathlib.Core.List.{List, [], ◌∷◌}
-use mathlib.Core.Option.{Option, none, some, some-injective}
 use mathlib.Core.Path.{◌≡◌, refl, sym, ap, ◌∙◌}
 use Prim.Native.Nat.{ℕ, zero, suc, ◌+◌, ◌*◌, ◌^◌, ◌≤◌, ◌<◌}
 use native.Mathlib.Nat.{mul-le-mul}
@@ -16,7 +16,8 @@ use Rattle.paper.specs.FirstBytes.{count_size}
 use Rattle.paper.specs.Meaning.{Doc, Docs, no_docs, doc, Fields, no_fields, field}
 use Rattle.paper.specs.Metadata.{Dictionary}
 use Rattle.paper.specs.Normal.{large_bit, value_bytes, element_bytes, member_bytes}
-use Rattle.paper.specs.Values.{Child, child_extent, head_size_of, area_of, starts_of, child_bytes, element_docs, member_docs}
+use Rattle.paper.specs.Values.{child_extent, head_size_of, area_of, starts_of, child_bytes, element_docs, member_docs}
+use Rattle.paper.specs.declared.Child.{Child}
 use Rattle.paper.specs.Words.{is_there, among, joined}
 use Rattle.containers.specs.Children.{sizes}
 use Rattle.forms.proofs.ContainerLaws.{count_of, width_of}
@@ -26,6 +27,7 @@ use Rattle.names.proofs.NeverLongerLaws.{number_at-below}
 use Rattle.numbers.proofs.WidthLaws.{smallest_least}
 use Rattle.paper.proofs.WordLaws.{never, then_some, and_both, some_there}
 use Rattle.containers.proofs.ChildLaws.{AllSized, extent_fits}
+use Rattle.std.proofs.lemmas.Option.{same_Some}
 
 -- ---- heads
 
@@ -58,12 +60,12 @@ most_read = 32770
 abbrev pub Grows : Dictionary → (List ℕ → Option Doc) → Type 0
 Grows used decode =
     (s : List ℕ) (d : Doc) → Bytes s → length s ≤ most_read
-    → decode s ≡ some d → names_there used d ≡ true → length (value_bytes used d) ≤ 2 * length s
+    → decode s ≡ Some d → names_there used d ≡ true → length (value_bytes used d) ≤ 2 * length s
 
 module _ (used : Dictionary) (decode : List ℕ → Option Doc)
     (each : Grows used decode)
     (area : List ℕ) (bytes : Bytes area) (short : length area ≤ most_read) where
-  child_grows : (child : Child) (d : Doc) → child_extent area child.start ≡ some child.size → decode (child_bytes area child) ≡ some d
+  child_grows : (child : Child) (d : Doc) → child_extent area child.start ≡ Some child.size → decode (child_bytes area child) ≡ Some d
       → names_there used d ≡ true → length (value_bytes used d) ≤ 2 * child.size
   child_grows child d sized e there =
       let size : length (child_bytes area child) ≡ child.size = child_length area child sized in
@@ -71,31 +73,31 @@ module _ (used : Dictionary) (decode : List ℕ → Option Doc)
       let grown = each (child_bytes area child) d (child_bytes_lem area child bytes) (omega arith) e there in
       omega arith
 
-  pub elements_grow : (children : List Child) (ds : Docs) → AllSized area children → element_docs decode area children ≡ some ds
+  pub elements_grow : (children : List Child) (ds : Docs) → AllSized area children → element_docs decode area children ≡ Some ds
       → all_names_there used ds ≡ true
       → (length (element_bytes used ds) ≤ length children) × (length (joined (element_bytes used ds)) ≤ 2 * sizes children)
   unfolding element_docs all_names_there element_bytes joined AllSized sizes
-  elements_grow [] ds sized e there = rw (← some-injective no_docs ds e) (omega arith, omega arith)
+  elements_grow [] ds sized e there = rw (← same_Some no_docs ds e) (omega arith, omega arith)
   elements_grow (child ∷ more) ds sized e there =
       let first = then_some (decode (child_bytes area child)) _ e in
       let rest = then_some (element_docs decode area more) _ first.2 in
-      let same : doc first.0 rest.0 ≡ ds = some-injective (doc first.0 rest.0) ds rest.2 in
+      let same : doc first.0 rest.0 ≡ ds = same_Some (doc first.0 rest.0) ds rest.2 in
       let found = and_both (names_there used first.0) (all_names_there used rest.0) (ap (all_names_there used) same ∙ there) in
       let one = child_grows child first.0 sized.0 first.1 found.0 in
       let others = elements_grow more rest.0 sized.1 rest.1 found.1 in
       rw (← same, length-append) (omega arith, omega arith)
 
   pub members_grow : (names : List (List ℕ)) (children : List Child) (fs : Fields) → AllSized area children
-      → member_docs decode area names children ≡ some fs
+      → member_docs decode area names children ≡ Some fs
       → field_names_there used fs ≡ true
       → (length (member_bytes used fs) ≤ length children) × (length (joined (member_bytes used fs)) ≤ 2 * sizes children)
   unfolding member_docs field_names_there member_bytes joined AllSized sizes is_there
-  members_grow [] children fs sized e there = rw (← some-injective no_fields fs e) (omega arith, omega arith)
-  members_grow (name ∷ names) [] fs sized e there = never (sym (some_there none e))
+  members_grow [] children fs sized e there = rw (← same_Some no_fields fs e) (omega arith, omega arith)
+  members_grow (name ∷ names) [] fs sized e there = never (sym (some_there None e))
   members_grow (name ∷ names) (child ∷ more) fs sized e there =
       let first = then_some (decode (child_bytes area child)) _ e in
       let rest = then_some (member_docs decode area names more) _ first.2 in
-      let same : field name first.0 rest.0 ≡ fs = some-injective (field name first.0 rest.0) fs rest.2 in
+      let same : field name first.0 rest.0 ≡ fs = same_Some (field name first.0 rest.0) fs rest.2 in
       let own = and_both (among name used) _ (ap (field_names_there used) same ∙ there) in
       let found = and_both (names_there used first.0) (field_names_there used rest.0) own.1 in
       let one = child_grows child first.0 sized.0 first.1 found.0 in

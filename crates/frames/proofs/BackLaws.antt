@@ -1,6 +1,6 @@
 -- A frame that is written is read back as its piece, in front of whatever stands behind it.
+use Rattle.std.specs.Prelude.{Some}
 use mathlib.Core.List.{List, [], ◌∷◌, ◌++◌, append_assoc, append-nil}
-use mathlib.Core.Option.{some}
 use mathlib.Core.Path.{◌≡◌, refl, sym, ap, ◌∙◌}
 use Prim.Native.Nat.{ℕ, ◌+◌, ◌-◌, ◌<◌}
 use native.Mathlib.Omega.{arith}
@@ -33,6 +33,6 @@ module _ (tag : ℕ) (body rest : List ℕ) (fits : length body < 65536) where
       pieces_cons tag (head ++ body ++ rest) size reads
       ∙ rw (inside, drop_at (head ++ body) rest (2 + size) both, long, le-leb 2 (2 + size + length rest) (omega arith), le-leb (2 + size) (2 + size + length rest) (omega arith))
 
-pub frame_alone : (tag : ℕ) (body : List ℕ) → length body < 65536 → pieces_of (frame tag body) ≡ some (record { tag = tag; body = body } ∷ [])
+pub frame_alone : (tag : ℕ) (body : List ℕ) → length body < 65536 → pieces_of (frame tag body) ≡ Some (record { tag = tag; body = body } ∷ [])
 unfolding piece_then and_then pieces_of pieces_within
 frame_alone tag body fits = ap pieces_of (sym (append-nil (frame tag body))) ∙ rw (pieces_frame tag body [] fits)

@@ -1,8 +1,8 @@
 -- The pieces between two positions of some bytes: they are pieces exactly when a whole frame stands at the first, and the bytes
 -- behind it are pieces.
+use Rattle.std.specs.Prelude.{Option, Some}
 use mathlib.Core.Bool.{Bool, true, false, ◌&&◌}
 use mathlib.Core.List.{List, [], ◌∷◌}
-use mathlib.Core.Option.{Option, some}
 use mathlib.Core.Path.{◌≡◌, refl, sym, ap, ◌∙◌}
 use Prim.Native.Nat.{ℕ, zero, suc, ◌+◌, ◌-◌, ◌≤◌, ◌<◌}
 use native.Mathlib.Omega.{arith}
@@ -62,16 +62,16 @@ pieces_more (suc n) (suc m) (tag ∷ rest) h k =
     let size : ℕ = number_at rest 0 2 in
     ap
     (λ (x : Option (List Piece)). given (leb 2 (length rest) && leb (2 + size) (length rest))
-    (and_then x λ more. some (record { tag = tag; body = part rest 2 (2 + size) } ∷ more)))
+    (and_then x λ more. Some (record { tag = tag; body = part rest 2 (2 + size) } ∷ more)))
     (pieces_more n m (drop (2 + size) rest) (rw length-drop (omega arith)) (rw length-drop (omega arith)))
 
-pub pieces_none : (s : List ℕ) (from to : ℕ) → to ≤ from → pieces_of (part s from to) ≡ some []
+pub pieces_none : (s : List ℕ) (from to : ℕ) → to ≤ from → pieces_of (part s from to) ≡ Some []
 unfolding pieces_of pieces_within
 pieces_none s from to h = rw (part_none s from to h)
 
 -- A piece and those behind it.
 unfoldable pub piece_then : Piece → Option (List Piece) → Option (List Piece)
-piece_then piece rest = and_then rest λ more. some (piece ∷ more)
+piece_then piece rest = and_then rest λ more. Some (piece ∷ more)
 
 pub pieces_cons : (tag : ℕ) (rest : List ℕ) (size : ℕ) → number_at rest 0 2 ≡ size
     → pieces_of (tag ∷ rest)

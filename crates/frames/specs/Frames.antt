@@ -1,11 +1,8 @@
 -- A frame at a place of some bytes: its piece, and where it ends.
-use Rattle.std.specs.Prelude.{◌&&◌, List, ℕ, ◌+◌, leb, length}
-use Rattle.std.proofs.Math.Option.{Option, none, some}
+use Rattle.std.specs.Prelude.{◌&&◌, List, ℕ, ◌+◌, leb, length, Option, Some}
 use Rattle.numbers.specs.Little.{number_at}
 use Rattle.paper.specs.Framing.{Piece}
 use Rattle.paper.specs.Words.{at, part, given}
-use Rattle.frames.specs.declared.Frame.{Frame}
-use Rattle.frames.specs.declared.Frame.TheVariants.{Ends, Cut}
 
 -- Where the frame that starts at a place ends: behind its tag, its two-byte length and its body.
 abbrev pub end_at : List ℕ → (place : ℕ) → ℕ
@@ -13,14 +10,7 @@ end_at s place = place + 3 + number_at s (place + 1) 2
 
 -- The same, if it fits.
 unfoldable pub frame_end : List ℕ → (place : ℕ) → Option ℕ
-frame_end s place = given (leb (place + 3) (length s) && leb (end_at s place) (length s)) (some (end_at s place))
-
-unfoldable pub frame_by : Option ℕ → Frame
-frame_by none = Cut
-frame_by (some end) = Ends end
-
-unfoldable pub frame_at : List ℕ → (place : ℕ) → Frame
-frame_at s place = frame_by (frame_end s place)
+frame_end s place = given (leb (place + 3) (length s) && leb (end_at s place) (length s)) (Some (end_at s place))
 
 -- The piece of a frame from a place to its end.
 abbrev pub piece_in : List ℕ → (place end : ℕ) → Piece

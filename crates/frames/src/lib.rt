@@ -2,26 +2,20 @@
 #![tactic(auto)]
 
 ghost use Rattle.std.specs.Prelude.{◌≡◌, ◌<◌, length};
-ghost use Rattle.frames.specs.Frames.{frame_at};
+ghost use Rattle.frames.specs.Frames.{frame_end};
 
-// The frame that starts at a place: where it ends, or that it does not fit. Its body starts three bytes behind the place.
-#[derive(Clone, Copy)]
-pub enum Frame {
-    Ends(usize),
-    Cut,
-}
-
-pub fn frame_at(s: &[u8], at: usize) -> Frame
+// Where the frame that starts at a place ends, if it fits. Its body starts three bytes on.
+pub fn frame_at(s: &[u8], at: usize) -> Option<usize>
     requires { at < length s.now }
-    ensures { result ≡ frame_at s.now at }
+    ensures { result ≡ frame_end s.now at }
 {
     if s.len() - at < 3 {
-        return Frame::Cut;
+        return None;
     }
     let body = at + 3;
     let size = numbers::read(s, at + 1, 2);
     if s.len() - body < size {
-        return Frame::Cut;
+        return None;
     }
-    Frame::Ends(body + size)
+    Some(body + size)
 }

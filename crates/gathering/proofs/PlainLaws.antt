@@ -1,7 +1,7 @@
 -- A plain place uses no id: it has no bytes, or a cell alone, or a leftover that is no container.
+use Rattle.std.specs.Prelude.{Some}
 use mathlib.Core.Bool.{Bool, true, false}
 use mathlib.Core.List.{List, []}
-use mathlib.Core.Option.{some}
 use mathlib.Core.Path.{◌≡◌, refl, sym, ap, ◌∙◌}
 use Prim.Native.Nat.{ℕ, ◌+◌, ◌-◌, ◌%◌, ◌≤◌, ◌<◌}
 use native.Mathlib.Omega.{arith}
@@ -56,14 +56,14 @@ module _ (schema : List ℕ) (node : ℕ) (body : List ℕ) where
       record {
         none_used =
             λ levels table under stands.
-            let here = column_here_lem stands (kind_column schema node (λ e. omega arith) tagged) refl in
+            let here = column_here_lem stands (kind_column schema node tagged) refl in
             ap (λ (n : Schema). place_ids n levels schema table node body) here.1 ∙ cell_by first levels (parts_of body) (told body);
       }
 
   module _ (first : at body 0 ≡ 0x41) (long : 4 ≤ length body) (size : ℕ) (is : size ≡ number_at body 1 2) (fills : 3 + size ≡ length body) where
     one_leftover : parts_of body ≡ Leftover
     one_leftover =
-        let ends : frame_end body 0 ≡ some (3 + size) = frame_ends body 0 (3 + size) _ (ends_there body 0 (omega arith) size is (omega arith)) refl in
+        let ends : frame_end body 0 ≡ Some (3 + size) = frame_ends body 0 (3 + size) _ (ends_there body 0 (omega arith) size is (omega arith)) refl in
         parts_one body (3 + size) ends fills ∙ sym (only_leftover (at body 0) first)
 
     first_own : at (part body 3 (length body)) 0 ≡ at body 3

@@ -1,4 +1,5 @@
 -- The two loops over inner places: what is left of them is to be marked on what is marked.
+use Rattle.std.specs.Prelude.{Some, None, Option}
 use mathlib.Core.List.{List, [], ◌++◌}
 use mathlib.Core.Path.{◌≡◌, refl, sym, ap, ◌∙◌}
 use Prim.Native.Nat.{ℕ, ◌+◌, ◌≤◌, ◌<◌}
@@ -6,9 +7,6 @@ use native.Mathlib.Omega.{arith}
 use lib.ListN.{length, drop}
 use Rattle.dictionary.specs.declared.ids.InputId.{InputId}
 use Rattle.fields.specs.Telling.{entry_place, looked_at}
-use Rattle.frames.specs.declared.Frame.TheVariants.{Ends, Cut}
-use Rattle.frames.specs.declared.Frame.{Frame}
-use Rattle.lookup.specs.declared.Looked.TheVariants.{At}
 use Rattle.marking.proofs.MarkLaws.{marked_length, mark_append}
 use Rattle.marking.specs.Ids.{mark_ids}
 use Rattle.paper.specs.Bounds.{most_walked}
@@ -16,7 +14,7 @@ use Rattle.paper.specs.Framing.{Piece}
 use Rattle.paper.specs.Metadata.{Dictionary}
 use Rattle.paper.specs.Schemas.{Schema, SchemaFields, named}
 use Rattle.paper.specs.Words.{part, joined}
-use Rattle.places.specs.Frames.{place_frame}
+use Rattle.places.specs.Frames.{place_end}
 use Rattle.rebuilt.proofs.InnerLaws.{pieces_none, element_whole, element_fits, element_place, elements_behind, element_pieces, members_none, member_first, member_has, member-node_in, member_frame_in, member_entry, member_below, member_whole, member_fits, member_place, members_behind, members_behind_are, member_pieces}
 use Rattle.rebuilt.specs.Rebuilt.{pieces_in}
 use Rattle.rebuilt.specs.There.{ElementsThere, MembersThere}
@@ -61,11 +59,11 @@ module _ {levels : ℕ} {schema table : List ℕ} {node : ℕ} {body used₀ : L
         sym (seen.whole element stands
         ∙ ap (λ (pieces : List Piece). mark_ids used (element_ids element levels schema table node pieces)) (pieces_none body at over))
 
-    module _ (h : at < length body) {r : Frame} (told : r ≡ place_frame body at) where
-      pub list_whole : r ≡ Cut → (element : Schema) → Stands levels schema node element → used ≡ mark_ids used₀ (element_ids element levels schema table node (pieces_in body))
+    module _ (h : at < length body) {r : Option ℕ} (told : r ≡ place_end body at) where
+      pub list_whole : r ≡ None → (element : Schema) → Stands levels schema node element → used ≡ mark_ids used₀ (element_ids element levels schema table node (pieces_in body))
       list_whole e = absurd (element_whole body at seen.there h told e)
 
-      module _ {end : ℕ} (e : r ≡ Ends end) where
+      module _ {end : ℕ} (e : r ≡ Some end) where
         pub list_inner : at + 3 ≤ end
         list_inner = let fits = (element_fits body at seen.there h told e).0 in omega arith
 
@@ -146,16 +144,16 @@ module _ {levels : ℕ} {schema table : List ℕ} {from to : ℕ} {body used₀ 
       field_frame_in = member_frame_in body at seen.there left
 
       -- what `mark_field` asks
-      pub field_asks : (entry_place field < length table) × ((id : InputId) → looked_at table field ≡ At id → id.0 < length used)
+      pub field_asks : (entry_place field < length table) × ((id : InputId) → looked_at table field ≡ Some id → id.0 < length used)
       field_asks =
           (member_entry body at seen.there left, λ id is. let below = member_below body at seen.there left id is in omega (arith, seen.room))
 
-      module _ {r : Frame} (told : r ≡ place_frame body at) where
-        pub field_whole : r ≡ Cut → (columns : SchemaFields) → FieldsStand levels schema from to columns
+      module _ {r : Option ℕ} (told : r ≡ place_end body at) where
+        pub field_whole : r ≡ None → (columns : SchemaFields) → FieldsStand levels schema from to columns
             → used ≡ mark_ids used₀ (member_ids columns levels schema table from (pieces_in body))
         field_whole e = absurd (member_whole body at seen.there left told e)
 
-        module _ {end : ℕ} (e : r ≡ Ends end) where
+        module _ {end : ℕ} (e : r ≡ Some end) where
           pub field_inner : at + 3 ≤ end
           field_inner = (member_fits body at seen.there left told e).0
 

@@ -6,4 +6,4 @@ mod plain;
 mod present;
 mod walker;
 
-pub use walker::place;
+pub use walker::Walk;

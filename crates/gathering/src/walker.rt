@@ -1,7 +1,6 @@
 // The ids of a place and of all that is inside it. The five walkers call each other, the levels left and the bytes left
 // falling.
 ghost use Rattle.std.specs.Prelude.{◌≡◌, length};
-ghost use Rattle.heads.specs.Packing.{Readings};
 ghost use Rattle.marking.specs.Ids.{mark_ids};
 ghost use Rattle.paper.specs.Schemas.{Schema, SchemaFields};
 ghost use Rattle.rebuilt.specs.Rebuilt.{pieces_in};
@@ -11,171 +10,105 @@ ghost use Rattle.gathering.specs.Gathering.{PlaceReady, TypedReady, ElementsRead
 
 use crate::plain::plain;
 use crate::present::mark_field;
-use frames::Frame;
+use heads::Readings;
 use marking::mark;
 use places::{Parts, place_frame, split};
 use schemas::Kind;
 
-// A place under a node, by the body of its frame.
-#[cycle(held_list_places_object_places_place_typed)]
-pub fn place(
-    levels: usize,
-    readings: &[u8],
-    schema: &[u8],
-    table: &[u16],
-    node: usize,
-    body: &[u8],
-    used: &mut [u8],
-)
-    requires { Readings readings.now × PlaceReady levels schema.now table.now node body.now (length used.old) }
-    ensures { (under : Schema) → Stands levels schema.now node under → used.new ≡ mark_ids used.old (place_ids under levels schema.now table.now node body.now) }
-{
-    let parts = split(body);
-    match parts {
-        Parts::Empty => {}
-        Parts::Leftover => {
-            let end = body.len();
-            mark(levels, readings, &body[3..end], used);
-        }
-        Parts::Typed => {
-            let end = body.len();
-            typed(levels, readings, schema, table, node, &body[3..end], used);
-        }
-        Parts::Both(middle) => {
-            let end = body.len();
-            let behind = middle + 3;
-            mark(levels, readings, &body[3..middle], used);
-            typed(
-                levels,
-                readings,
-                schema,
-                table,
-                node,
-                &body[behind..end],
-                used,
-            );
-        }
-        Parts::Unframed => {}
-    }
+// What is the same at every place of a row: the readings of first bytes, a good schema, and the table of its fields' ids.
+#[derive(Drop)]
+pub struct Walk<'a> {
+    pub readings: &'a Readings,
+    pub schema: &'a [u8],
+    pub table: &'a [u16],
 }
 
-// What is typed under a node.
-#[cycle(held_list_places_object_places_place_typed)]
-fn typed(
-    levels: usize,
-    readings: &[u8],
-    schema: &[u8],
-    table: &[u16],
-    node: usize,
-    body: &[u8],
-    used: &mut [u8],
-)
-    requires { Readings readings.now × TypedReady levels schema.now table.now node body.now (length used.old) }
-    ensures { (under : Schema) → Stands levels schema.now node under → used.new ≡ mark_ids used.old (typed_ids under levels schema.now table.now node body.now) }
-{
-    let kind = schemas::kind_at(schema, node);
-    match kind {
-        Kind::Leftover => {}
-        Kind::Column(_) => {}
-        Kind::List => {
-            list_places(levels - 1, readings, schema, table, node + 3, body, used);
-        }
-        Kind::Fields => {
-            let to = schemas::frame_end(schema, node);
-            object_places(
-                levels - 1,
-                readings,
-                schema,
-                table,
-                node + 3,
-                to,
-                body,
-                used,
-            );
+impl<'a> Walk<'a> {
+    // A place under a node, by the body of its frame.
+    #[cycle(held_list_places_object_places_place_typed)]
+    pub fn place(&self, levels: usize, node: usize, body: &[u8], used: &mut [u8])
+        requires { PlaceReady levels self.now.schema.now self.now.table.now node body.now (length used.old) }
+        ensures { (under : Schema) → Stands levels self.now.schema.now node under → used.new ≡ mark_ids used.old (place_ids under levels self.now.schema.now self.now.table.now node body.now) }
+    {
+        match split(body) {
+            Parts::Empty => {}
+            Parts::Leftover => mark(levels, self.readings, &body[3..], used),
+            Parts::Typed => self.typed(levels, node, &body[3..], used),
+            Parts::Both(middle) => {
+                mark(levels, self.readings, &body[3..middle], used);
+                self.typed(levels, node, &body[middle + 3..], used);
+            }
+            Parts::Unframed => {}
         }
     }
-}
 
-// A place inside another: most of them are plain.
-#[cycle(held_list_places_object_places_place_typed)]
-fn held(
-    levels: usize,
-    readings: &[u8],
-    schema: &[u8],
-    table: &[u16],
-    node: usize,
-    body: &[u8],
-    used: &mut [u8],
-)
-    requires { Readings readings.now × PlaceReady levels schema.now table.now node body.now (length used.old) }
-    ensures { (under : Schema) → Stands levels schema.now node under → used.new ≡ mark_ids used.old (place_ids under levels schema.now table.now node body.now) }
-{
-    if plain(schema, node, body) {
-        return;
+    // What is typed under a node.
+    #[cycle(held_list_places_object_places_place_typed)]
+    fn typed(&self, levels: usize, node: usize, body: &[u8], used: &mut [u8])
+        requires { TypedReady levels self.now.schema.now self.now.table.now node body.now (length used.old) }
+        ensures { (under : Schema) → Stands levels self.now.schema.now node under → used.new ≡ mark_ids used.old (typed_ids under levels self.now.schema.now self.now.table.now node body.now) }
+    {
+        match schemas::kind_at(self.schema, node) {
+            Kind::Leftover => {}
+            Kind::Column(_) => {}
+            Kind::List => self.list_places(levels - 1, node + 3, body, used),
+            Kind::Fields => {
+                let to = schemas::frame_end(self.schema, node);
+                self.object_places(levels - 1, node + 3, to, body, used);
+            }
+        }
     }
-    place(levels, readings, schema, table, node, body, used);
-}
 
-// A list's places, each under the element node.
-#[cycle(held_list_places_object_places_place_typed)]
-fn list_places(
-    levels: usize,
-    readings: &[u8],
-    schema: &[u8],
-    table: &[u16],
-    node: usize,
-    body: &[u8],
-    used: &mut [u8],
-)
-    requires { Readings readings.now × ElementsReady levels schema.now table.now node body.now (length used.old) }
-    ensures { (element : Schema) → Stands levels schema.now node element → used.new ≡ mark_ids used.old (element_ids element levels schema.now table.now node (pieces_in body.now)) }
-{
-    let mut at = 0;
-    while at < body.len() {
-        let Frame::Ends(end) = place_frame(body, at) else {
+    // A place inside another: most of them are plain.
+    #[cycle(held_list_places_object_places_place_typed)]
+    fn held(&self, levels: usize, node: usize, body: &[u8], used: &mut [u8])
+        requires { PlaceReady levels self.now.schema.now self.now.table.now node body.now (length used.old) }
+        ensures { (under : Schema) → Stands levels self.now.schema.now node under → used.new ≡ mark_ids used.old (place_ids under levels self.now.schema.now self.now.table.now node body.now) }
+    {
+        if plain(self.schema, node, body) {
             return;
-        };
-        let inner = at + 3;
-        held(
-            levels,
-            readings,
-            schema,
-            table,
-            node,
-            &body[inner..end],
-            used,
-        );
-        at = end;
+        }
+        self.place(levels, node, body, used);
     }
-}
 
-// An object's places, one for each field of the node in schema order.
-#[cycle(held_list_places_object_places_place_typed)]
-fn object_places(
-    levels: usize,
-    readings: &[u8],
-    schema: &[u8],
-    table: &[u16],
-    from: usize,
-    to: usize,
-    body: &[u8],
-    used: &mut [u8],
-)
-    requires { Readings readings.now × MembersReady levels schema.now table.now from to body.now (length used.old) }
-    ensures { (columns : SchemaFields) → FieldsStand levels schema.now from to columns → used.new ≡ mark_ids used.old (member_ids columns levels schema.now table.now from (pieces_in body.now)) }
-{
-    let mut field = from;
-    let mut at = 0;
-    while field < to {
-        let Frame::Ends(end) = place_frame(body, at) else {
-            return;
-        };
-        let inner = at + 3;
-        let inside = &body[inner..end];
-        let node = schemas::field_node(schema, field);
-        mark_field(table, field, inside, used);
-        held(levels, readings, schema, table, node, inside, used);
-        at = end;
-        field = schemas::frame_end(schema, field);
+    // A list's places, each under the element node.
+    #[cycle(held_list_places_object_places_place_typed)]
+    fn list_places(&self, levels: usize, node: usize, body: &[u8], used: &mut [u8])
+        requires { ElementsReady levels self.now.schema.now self.now.table.now node body.now (length used.old) }
+        ensures { (element : Schema) → Stands levels self.now.schema.now node element → used.new ≡ mark_ids used.old (element_ids element levels self.now.schema.now self.now.table.now node (pieces_in body.now)) }
+    {
+        let mut at = 0;
+        // Frames are of many lengths, so their places are no range.
+        while at < body.len() {
+            let Some(end) = place_frame(body, at) else {
+                return;
+            };
+            let inner = at + 3;
+            self.held(levels, node, &body[inner..end], used);
+            at = end;
+        }
+    }
+
+    // An object's places, one for each field of the node in schema order.
+    #[cycle(held_list_places_object_places_place_typed)]
+    fn object_places(&self, levels: usize, from: usize, to: usize, body: &[u8], used: &mut [u8])
+        requires { MembersReady levels self.now.schema.now self.now.table.now from to body.now (length used.old) }
+        ensures { (columns : SchemaFields) → FieldsStand levels self.now.schema.now from to columns → used.new ≡ mark_ids used.old (member_ids columns levels self.now.schema.now self.now.table.now from (pieces_in body.now)) }
+    {
+        let mut field = from;
+        let mut at = 0;
+        // Frames are of many lengths, so their places are no range.
+        while field < to {
+            let Some(end) = place_frame(body, at) else {
+                return;
+            };
+            let inner = at + 3;
+            let inside = &body[inner..end];
+            let node = schemas::field_node(self.schema, field);
+            mark_field(self.table, field, inside, used);
+            self.held(levels, node, inside, used);
+            at = end;
+            field = schemas::frame_end(self.schema, field);
+        }
     }
 }

@@ -1,6 +1,9 @@
 -- A scalar alone: its place by the outermost node, six bytes longer than it at most, and the row that is handed out.
+use Rattle.paper.specs.Refusals.{RowAnswer}
+use Rattle.std.specs.Prelude.{Some, None, Option, IsSome}
 use mathlib.Core.Bool.{Bool, true, false, cond}
 use mathlib.Core.List.{List, [], ◌∷◌}
+use mathlib.Core.Logic.{◌⊎◌, inl, inr}
 use mathlib.Core.Path.{◌≡◌, refl, ap, ◌∙◌}
 use Prim.Native.Nat.{ℕ, ◌+◌, ◌-◌, ◌≤◌}
 use native.Mathlib.Omega.{arith}
@@ -26,11 +29,8 @@ use Rattle.paper.specs.Shredding.{cut, place_bytes}
 use Rattle.paper.specs.Words.{at}
 use Rattle.paper.specs.declared.Reading.TheVariants.{Fixed, Prefixed, Short, ObjectHead, ArrayHead, Nothing}
 use Rattle.paper.specs.declared.Reading.{Reading}
-use Rattle.paper.specs.declared.RowAnswer.{RowAnswer}
 use Rattle.putting.proofs.PutLaws.{told_here, told_full}
 use Rattle.putting.specs.Put.{PutAs}
-use Rattle.putting.specs.declared.Put.TheVariants.{At, Full}
-use Rattle.putting.specs.declared.Put.{Put}
 use Rattle.schemas.proofs.KindLaws.{kind_there, leftover_here_lem, column_here_lem, list_here_lem, object_here}
 use Rattle.schemas.proofs.StandingLaws.{column_stands, schema_stands}
 use Rattle.schemas.specs.Kinds.{kind_at, KindThere}
@@ -107,20 +107,25 @@ module _ {schema value : List ℕ} (alone : Alone schema value) where
   -- ---- by the kind of the outermost node
 
   module _ {k : Kind} (is : k ≡ kind_at schema 0) where
-    module _ {before after : List ℕ} {end : ℕ} {r : Put} (left : PutAs (place_of 0x41 value) before after 0 end r) where
+    module _ {before after : List ℕ} {end : ℕ} {r : Option ℕ} (left : PutAs (place_of 0x41 value) before after 0 end r) where
       left_over : cut Under Document ≡ leftover Document → PutAs Place before after 0 end r
       unfolding valued
       left_over same = put_left Under valued same left
 
-      pub alone_leftover : k ≡ Leftover → PutAs Place before after 0 end r
+      alone_leftover : k ≡ Leftover → PutAs Place before after 0 end r
       unfolding cut
       alone_leftover e = left_over (ap (λ (n : Schema). cut n Document) (leftover_here_lem stands is e))
 
-      pub alone_list : k ≡ ListKind → PutAs Place before after 0 end r
+      alone_list : k ≡ ListKind → PutAs Place before after 0 end r
       alone_list e = let here = list_here_lem stands is e in left_over (ap (λ (n : Schema). cut n Document) here.1 ∙ no_list here.0 Document alone.no_array)
 
-      pub alone_fields : k ≡ FieldsKind → PutAs Place before after 0 end r
+      alone_fields : k ≡ FieldsKind → PutAs Place before after 0 end r
       alone_fields e = let here = object_here stands is e in left_over (ap (λ (n : Schema). cut n Document) here.1 ∙ no_fields_lem here.0 Document alone.no_object)
+
+      pub alone_untyped : (k ≡ Leftover) ⊎ ((k ≡ ListKind) ⊎ (k ≡ FieldsKind)) → PutAs Place before after 0 end r
+      alone_untyped (inl e) = alone_leftover e
+      alone_untyped (inr (inl e)) = alone_list e
+      alone_untyped (inr (inr e)) = alone_fields e
 
     column_is : {code : ℕ} → k ≡ ColumnKind code → Place ≡ column_place code (reading_of (at value 0)) value
     column_is e =
@@ -128,7 +133,7 @@ module _ {schema value : List ℕ} (alone : Alone schema value) where
         ap (λ (n : Schema). place_bytes (names_used Document) (cut n Document)) here.1
         ∙ column_cut here.0 here.3.good (names_used Document) most_levels Document alone.normal.good ∙ rw (here.2, ← alone.normal.value_is)
 
-    pub alone_column : {code : ℕ} → k ≡ ColumnKind code → {before after : List ℕ} {end : ℕ} {r : Put}
+    pub alone_column : {code : ℕ} → k ≡ ColumnKind code → {before after : List ℕ} {end : ℕ} {r : Option ℕ}
         → PutAs (column_place code (reading_of (at value 0)) value) before after 0 end r → PutAs Place before after 0 end r
     alone_column e done = rw (column_is e) done
 
@@ -157,16 +162,19 @@ module _ {schema value : List ℕ} (alone : Alone schema value) where
 
 -- ---- of every reading of the bytes
 
-module _ {schema value before after : List ℕ} {r : Put}
+module _ {schema value before after : List ℕ} {r : Option ℕ}
     (put : (alone : Alone schema value) → PutAs (place_bytes (names_used alone.normal.d) (cut alone.normal.node alone.normal.d)) before after 0 (length before) r) where
-  pub alone_fits : Alone schema value → 6 + length value ≤ length before → r ≡ Full → {row row' : List ℕ} {a : RowAnswer}
-      → (alone : Alone schema value) → RowAnswered (row_outcome alone.normal.node alone.normal.d) row row' a
-  alone_fits known room e alone = let long = told_full (put known) e in let short = place_short known in absurd (omega arith)
+  pub alone_fits : Alone schema value → 6 + length value ≤ length before → IsSome r
+  alone_fits known room = go r refl
+    where
+      go : (o : Option ℕ) → r ≡ o → IsSome o
+      go (Some start) e = refl
+      go None e = let long = told_full (put known) e in let short = place_short known in absurd (omega arith)
 
-  pub alone_starts : Alone schema value → {start : ℕ} → r ≡ At start → start ≤ length before
+  pub alone_starts : Alone schema value → {start : ℕ} → r ≡ Some start → start ≤ length before
   alone_starts known e = let size = (told_here (put known) e).1.size in omega arith
 
-  pub alone_answers : {start : ℕ} → r ≡ At start → {row row' : List ℕ} {a : RowAnswer}
+  pub alone_answers : {start : ℕ} → r ≡ Some start → {row row' : List ℕ} {a : RowAnswer}
       → RowAnswered (row_from no_names (take (length before - start) (drop start after))) row row' a
       → (alone : Alone schema value) → RowAnswered (row_outcome alone.normal.node alone.normal.d) row row' a
   alone_answers e answered alone =

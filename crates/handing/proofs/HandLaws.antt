@@ -1,4 +1,6 @@
 -- What is answered of a row to be written, test by test: 8, 9, or done.
+use Rattle.paper.specs.declared.Unwritten.TheVariants.{Refused, Short}
+use Rattle.std.specs.Prelude.{Err, Ok}
 use mathlib.Core.List.{List, ◌++◌}
 use mathlib.Core.Path.{◌≡◌, refl, sym, ap, ◌∙◌}
 use Prim.Native.Nat.{ℕ, ◌+◌, ◌≤◌, ◌<◌}
@@ -12,16 +14,15 @@ use Rattle.paper.specs.Limits.{most_row, most_value}
 use Rattle.paper.specs.Meaning.{Doc}
 use Rattle.paper.specs.Normal.{names_used, metadata_bytes, value_bytes, normal_form}
 use Rattle.paper.specs.Operations.{writable, row_outcome, row_answer, row_written}
-use Rattle.paper.specs.Refusals.{Outcome, refused, reached, require}
+use Rattle.paper.specs.Refusals.{Outcome, require}
 use Rattle.paper.specs.Schemas.{Schema}
 use Rattle.paper.specs.Shredding.{cut, place_bytes, row_bytes}
 use Rattle.paper.specs.declared.Refusal.TheVariants.{TooLarge}
 use Rattle.paper.specs.declared.Refusal.{Refusal}
-use Rattle.paper.specs.declared.RowAnswer.TheVariants.{Done, Short, Refused}
 use Rattle.handing.specs.Handing.{RowAnswered, row_from}
 
 -- What is refused leaves the buffer as it was.
-pub refused_row : {outcome : Outcome (List ℕ)} {refusal : Refusal} → outcome ≡ refused refusal → (row : List ℕ) → RowAnswered outcome row row (Refused refusal)
+pub refused_row : {outcome : Outcome (List ℕ)} {refusal : Refusal} → outcome ≡ Err refusal → (row : List ℕ) → RowAnswered outcome row row (Err (Refused refusal))
 unfolding row_answer row_written
 refused_row e row = rw e (record { answer_is = refl; row_is = sym (put_none row 0) })
 
@@ -38,16 +39,16 @@ module _ (metadata place : List ℕ) (size : ℕ) (told : size ≡ 3 + length me
   abbrev Count : List ℕ
   Count = number_bytes 2 (length metadata)
 
-  pub hand_large : most_row < size → (row : List ℕ) → RowAnswered (row_from metadata place) row row (Refused TooLarge)
+  pub hand_large : most_row < size → (row : List ℕ) → RowAnswered (row_from metadata place) row row (Err (Refused TooLarge))
   unfolding row_from require
   hand_large h = refused_row (rw (row_size, lt-leb size most_row h))
 
   module _ (fits : size ≤ most_row) (row : List ℕ) where
-    fitting : row_from metadata place ≡ reached (frame 0x40 metadata ++ place)
+    fitting : row_from metadata place ≡ Ok (frame 0x40 metadata ++ place)
     unfolding row_from require
     fitting = rw (row_size, le-leb size most_row fits)
 
-    pub hand_short : length row < size → RowAnswered (row_from metadata place) row row (Short size)
+    pub hand_short : length row < size → RowAnswered (row_from metadata place) row row (Err (Short size))
     unfolding row_answer row_written
     hand_short h =
         rw fitting
@@ -73,7 +74,7 @@ module _ (metadata place : List ℕ) (size : ℕ) (told : size ≡ 3 + length me
           let middle : 3 + length metadata ≡ 0 + length ((Tag ++ Count) ++ metadata) = omega arith in
           last ∙ rw (middle, first_half) (put_run row 0 ((Tag ++ Count) ++ metadata) place (omega arith))
 
-      pub hand_done : RowAnswered (row_from metadata place) row after (Done size)
+      pub hand_done : RowAnswered (row_from metadata place) row after (Ok size)
       unfolding row_answer row_written
       hand_done =
           rw fitting
@@ -91,7 +92,7 @@ row_outcome_lem node d short = rw (le-leb (length (value_bytes (names_used d) d)
 
 -- A place that is longer than a row may be makes a row that is.
 pub place_large : (node : Schema) (d : Doc) → length (value_bytes (names_used d) d) ≤ most_value → most_row < length (place_bytes (names_used d) (cut node d))
-    → row_outcome node d ≡ refused TooLarge
+    → row_outcome node d ≡ Err TooLarge
 unfolding row_from require
 place_large node d short long =
     let place : List ℕ = place_bytes (names_used d) (cut node d) in

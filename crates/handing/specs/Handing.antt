@@ -1,6 +1,5 @@
 -- A document's row to be written into one lent buffer: the answer, every byte of the buffer, and what the writing stands on.
-use Rattle.std.specs.Prelude.{true, List, [], ◌∷◌, ◌++◌, ◌≡◌, ℕ, ◌/◌, ◌≤◌, ◌<◌, leb, length, get_or}
-use Rattle.std.proofs.Math.Option.{some}
+use Rattle.std.specs.Prelude.{true, List, [], ◌∷◌, ◌++◌, ◌≡◌, ℕ, ◌/◌, ◌≤◌, ◌<◌, leb, length, get_or, Some, Ok, None, Option}
 use Rattle.fields.specs.Telling.{Told}
 use Rattle.forms.specs.WellFormed.{well_formed}
 use Rattle.numbers.specs.Little.{put_at}
@@ -9,13 +8,10 @@ use Rattle.paper.specs.Limits.{most_levels, most_metadata, most_row, most_schema
 use Rattle.paper.specs.Meaning.{Doc, array, object, Docs, Fields}
 use Rattle.paper.specs.Normal.{names_used, metadata_bytes, value_bytes}
 use Rattle.paper.specs.Operations.{row_outcome, row_answer, row_written}
-use Rattle.paper.specs.Refusals.{Outcome, reached, require}
+use Rattle.paper.specs.Refusals.{Outcome, require, RowAnswer}
 use Rattle.paper.specs.Schemas.{Schema, schema_of}
 use Rattle.paper.specs.Shredding.{cut, place_bytes}
 use Rattle.paper.specs.declared.Refusal.TheVariants.{TooLarge}
-use Rattle.paper.specs.declared.RowAnswer.{RowAnswer}
-use Rattle.handing.specs.declared.rooms.Tried.TheVariants as tried
-use Rattle.handing.specs.declared.rooms.Tried.{Tried}
 
 -- ---- the answer, and what stands in the buffer
 
@@ -25,14 +21,14 @@ pub record RowAnswered (outcome : Outcome (List ℕ)) (before after : List ℕ) 
 
 -- A row by its metadata and its outermost place, if it may be written.
 unfoldable pub row_from : (metadata place : List ℕ) → Outcome (List ℕ)
-row_from metadata place = require (leb (length (frame 0x40 metadata ++ place)) most_row) TooLarge (reached (frame 0x40 metadata ++ place))
+row_from metadata place = require (leb (length (frame 0x40 metadata ++ place)) most_row) TooLarge (Ok (frame 0x40 metadata ++ place))
 
 -- ---- what it is written from
 
 -- A document's normal form, under a good schema.
 pub record Normalised (schema metadata value : List ℕ) : Type 0 where
   pub node : Schema
-  pub node_is : schema_of schema ≡ some node
+  pub node_is : schema_of schema ≡ Some node
   pub schema_short : length schema ≤ most_schema
   pub d : Doc
   pub good : well_formed most_levels d ≡ true
@@ -51,9 +47,9 @@ pub record Tabled (ranks schema table metadata value : List ℕ) : Type 0 where
 
 -- ---- what came of a room: the row is answered, or the room is too short for its outermost place, and the buffer is as it was
 
-pub data TriedAs (node : Schema) (d : Doc) (before after : List ℕ) (room : ℕ) : Tried → Type 0 where
-  told : (answer : RowAnswer) → RowAnswered (row_outcome node d) before after answer → TriedAs node d before after room (tried.Told answer)
-  no_room : room < length (place_bytes (names_used d) (cut node d)) → after ≡ before → TriedAs node d before after room tried.NoRoom
+pub data TriedAs (node : Schema) (d : Doc) (before after : List ℕ) (room : ℕ) : Option RowAnswer → Type 0 where
+  told : (answer : RowAnswer) → RowAnswered (row_outcome node d) before after answer → TriedAs node d before after room (Some answer)
+  no_room : room < length (place_bytes (names_used d) (cut node d)) → after ≡ before → TriedAs node d before after room None
 
 -- ---- a scalar alone
 

@@ -8,46 +8,29 @@ mod rooms;
 mod scalar;
 
 ghost use Rattle.std.specs.Prelude.{true, ◌≡◌, ◌/◌, ◌≤◌, length};
-ghost use Rattle.std.proofs.Math.Option.{some};
-ghost use Rattle.dictionary.specs.Judging.{Opened};
 ghost use Rattle.fields.specs.Telling.{Told};
 ghost use Rattle.paper.specs.Limits.{most_row};
 ghost use Rattle.paper.specs.Bounds.{most_names};
-ghost use Rattle.paper.specs.Metadata.{flag_set, dictionary_of, names_in};
 ghost use Rattle.paper.specs.Operations.{row_outcome};
 ghost use Rattle.paper.specs.Schemas.{Schema, schema_of};
-ghost use Rattle.paper.specs.Words.{at, is_there};
+ghost use Rattle.paper.specs.Words.{is_there};
 ghost use Rattle.handing.specs.Handing.{RowAnswered, Normalised};
 
 use crate::rooms::with_room;
-use dictionary::Names;
+use cutting::Basis;
+use dictionary::Dictionary;
+use heads::Readings;
 use paper::RowAnswer;
 pub use scalar::alone;
 
-// What is read of normal metadata.
-fn normal_names(metadata: &[u8]) -> Names
-    requires { (is_there (dictionary_of metadata.now) ≡ true) × (flag_set (at metadata.now 0) ≡ true) }
-    ensures { Opened metadata.now result × (result.sorted ≡ true) }
-{
-    let width = numbers::wide(metadata[0]) / 64 + 1;
-    let count = numbers::read(metadata, 1, width);
-    Names {
-        width,
-        count,
-        sorted: true,
-    }
-}
-
 // Finds the id of each field of a good schema among names that are sorted.
-fn find_fields(schema: &[u8], metadata: &[u8], names: Names, table: &mut [u16])
-    requires { (is_there (schema_of schema.now) ≡ true) × (length schema.now / 9 ≤ length table.old) × Opened metadata.now names × (names.sorted ≡ true) × (names.count ≤ most_names) }
-    ensures { (node : Schema) → schema_of schema.now ≡ some node → Told (names_in metadata.now) schema.now table.new node 0 }
+fn find_fields(schema: &[u8], dictionary: &Dictionary, table: &mut [u16])
+    requires { (is_there (schema_of schema.now) ≡ true) × (length schema.now / 9 ≤ length table.old) × (dictionary.now.sorted ≡ true) × (length dictionary.now.names ≤ most_names) }
+    ensures { (node : Schema) → schema_of schema.now ≡ Some node → Told dictionary.now.names schema.now table.new node 0 }
 {
-    if !fields::names_fields(schema) {
-        return;
+    if fields::names_fields(schema) {
+        fields::fill(schema, dictionary, &[], table);
     }
-    let order = [0u16; 1];
-    fields::fill(schema, metadata, names, &order, table);
 }
 
 // Fills the tables for a normal form, and writes its row.
@@ -64,12 +47,16 @@ pub fn with_tables(
     requires { Normalised schema.now metadata.now value.now × (length metadata.now ≤ length ranks.old) × (length value.now ≤ length notes.old) × (length value.now ≤ length ids.old) × (length room.old ≤ most_row) }
     ensures { (normal : Normalised schema.now metadata.now value.now) → RowAnswered (row_outcome normal.node normal.d) row.old row.new result }
 {
-    let names = normal_names(metadata);
+    let dictionary = dictionary::open(metadata);
     let mut table = [0u16; 456];
-    find_fields(schema, metadata, names, &mut table);
-    let count = names.count;
+    find_fields(schema, &dictionary, &mut table);
+    let count = dictionary.len();
     lookup::list_ids(&mut ranks[..count]);
-    with_room(
-        ranks, schema, &table, metadata, value, notes, ids, room, row,
-    )
+    let basis = Basis {
+        readings: &Readings::new(),
+        ranks,
+        schema,
+        table: &table,
+    };
+    with_room(&basis, metadata, value, notes, ids, room, row)
 }

@@ -4,15 +4,8 @@ ghost use Rattle.paper.specs.Limits.{most_metadata, most_row};
 ghost use Rattle.paper.specs.Operations.{row_outcome};
 ghost use Rattle.handing.specs.Handing.{RowAnswered, row_from, Tabled, TriedAs};
 
-use paper::{Refusal, RowAnswer};
-use putting::Put;
-
-// What came of a room: the answer, or the room is too short for the outermost place.
-#[derive(Clone, Copy)]
-enum Tried {
-    Told(RowAnswer),
-    NoRoom,
-}
+use cutting::Basis;
+use paper::{Refusal, RowAnswer, Unwritten};
 
 // Hands out a row, by its metadata and its outermost place, if it is not too long and the buffer has room.
 pub fn hand_out(metadata: &[u8], place: &[u8], row: &mut [u8]) -> RowAnswer
@@ -22,84 +15,57 @@ pub fn hand_out(metadata: &[u8], place: &[u8], row: &mut [u8]) -> RowAnswer
     let middle = 3 + metadata.len();
     let size = middle + place.len();
     if paper::MOST_ROW < size {
-        return RowAnswer::Refused(Refusal::TooLarge);
+        return Err(Unwritten::Refused(Refusal::TooLarge));
     }
     if row.len() < size {
-        return RowAnswer::Short(size);
+        return Err(Unwritten::Short(size));
     }
     numbers::write(row, 0, 1, 0x40);
     numbers::write(row, 1, 2, metadata.len());
     numbers::put(row, 3, metadata);
     numbers::put(row, middle, place);
-    RowAnswer::Done(size)
+    Ok(size)
 }
 
 // Cuts the value into a room, and hands the row out.
 fn write_out(
-    ranks: &[u16],
-    schema: &[u8],
-    table: &[u16],
+    basis: &Basis,
     metadata: &[u8],
     value: &[u8],
     notes: &mut [u16],
     ids: &mut [u8],
     room: &mut [u8],
     row: &mut [u8],
-) -> Tried
-    requires { Tabled ranks.now schema.now table.now metadata.now value.now × (length value.now ≤ length notes.old) × (length value.now ≤ length ids.old) × (length room.old ≤ most_row) }
-    ensures { (ready : Tabled ranks.now schema.now table.now metadata.now value.now) → TriedAs ready.normal.node ready.normal.d row.old row.new (length room.old) result }
+) -> Option<RowAnswer>
+    requires { Tabled basis.now.ranks.now basis.now.schema.now basis.now.table.now metadata.now value.now × (length value.now ≤ length notes.old) × (length value.now ≤ length ids.old) × (length room.old ≤ most_row) }
+    ensures { (ready : Tabled basis.now.ranks.now basis.now.schema.now basis.now.table.now metadata.now value.now) → TriedAs ready.normal.node ready.normal.d row.old row.new (length room.old) result }
 {
-    let readings = heads::READINGS;
     let end = room.len();
-    let put = cutting::place(
-        paper::MOST_LEVELS,
-        &readings,
-        ranks,
-        schema,
-        table,
-        0,
-        value,
-        notes,
-        ids,
-        room,
-        end,
-    );
-    let Put::At(start) = put else {
-        return Tried::NoRoom;
-    };
-    let answer = hand_out(metadata, &room[start..end], row);
-    Tried::Told(answer)
+    let levels = paper::MOST_LEVELS;
+    let start = cutting::place(basis, levels, 0, value, notes, ids, room, end)?;
+    Some(hand_out(metadata, &room[start..end], row))
 }
 
 // By way of the long room: a place that does not fit it makes no row that may be written.
 fn in_long_room(
-    ranks: &[u16],
-    schema: &[u8],
-    table: &[u16],
+    basis: &Basis,
     metadata: &[u8],
     value: &[u8],
     notes: &mut [u16],
     ids: &mut [u8],
     row: &mut [u8],
 ) -> RowAnswer
-    requires { Tabled ranks.now schema.now table.now metadata.now value.now × (length value.now ≤ length notes.old) × (length value.now ≤ length ids.old) }
-    ensures { (ready : Tabled ranks.now schema.now table.now metadata.now value.now) → RowAnswered (row_outcome ready.normal.node ready.normal.d) row.old row.new result }
+    requires { Tabled basis.now.ranks.now basis.now.schema.now basis.now.table.now metadata.now value.now × (length value.now ≤ length notes.old) × (length value.now ≤ length ids.old) }
+    ensures { (ready : Tabled basis.now.ranks.now basis.now.schema.now basis.now.table.now metadata.now value.now) → RowAnswered (row_outcome ready.normal.node ready.normal.d) row.old row.new result }
 {
     let mut room = [0u8; 65535];
-    let tried = write_out(
-        ranks, schema, table, metadata, value, notes, ids, &mut room, row,
-    );
-    match tried {
-        Tried::Told(answer) => answer,
-        Tried::NoRoom => RowAnswer::Refused(Refusal::TooLarge),
-    }
+    let tried = write_out(basis, metadata, value, notes, ids, &mut room, row);
+    tried.unwrap_or(Err(Unwritten::Refused(Refusal::TooLarge)))
 }
 
 // By way of the lent room, and then, unless it was as long, of the long one.
 pub fn with_room(
-    ranks: &[u16],
-    schema: &[u8],
-    table: &[u16],
+    basis: &Basis,
     metadata: &[u8],
     value: &[u8],
     notes: &mut [u16],
@@ -107,17 +73,15 @@ pub fn with_room(
     room: &mut [u8],
     row: &mut [u8],
 ) -> RowAnswer
-    requires { Tabled ranks.now schema.now table.now metadata.now value.now × (length value.now ≤ length notes.old) × (length value.now ≤ length ids.old) × (length room.old ≤ most_row) }
-    ensures { (ready : Tabled ranks.now schema.now table.now metadata.now value.now) → RowAnswered (row_outcome ready.normal.node ready.normal.d) row.old row.new result }
+    requires { Tabled basis.now.ranks.now basis.now.schema.now basis.now.table.now metadata.now value.now × (length value.now ≤ length notes.old) × (length value.now ≤ length ids.old) × (length room.old ≤ most_row) }
+    ensures { (ready : Tabled basis.now.ranks.now basis.now.schema.now basis.now.table.now metadata.now value.now) → RowAnswered (row_outcome ready.normal.node ready.normal.d) row.old row.new result }
 {
-    let tried = write_out(ranks, schema, table, metadata, value, notes, ids, room, row);
-    match tried {
-        Tried::Told(answer) => answer,
-        Tried::NoRoom => {
-            if room.len() == paper::MOST_ROW {
-                return RowAnswer::Refused(Refusal::TooLarge);
-            }
-            in_long_room(ranks, schema, table, metadata, value, notes, ids, row)
-        }
+    let tried = write_out(basis, metadata, value, notes, ids, room, row);
+    if let Some(answer) = tried {
+        return answer;
     }
+    if room.len() == paper::MOST_ROW {
+        return Err(Unwritten::Refused(Refusal::TooLarge));
+    }
+    in_long_room(basis, metadata, value, notes, ids, row)
 }

@@ -8,24 +8,18 @@ ghost use Rattle.putting.specs.Put.{Room, PutAs};
 ghost use Rattle.handing.specs.Handing.{RowAnswered, Alone};
 
 use crate::rooms::hand_out;
-use paper::{Refusal, RowAnswer};
-use putting::Put;
+use heads::Readings;
+use paper::RowAnswer;
 use schemas::Kind;
 
 // Its place: typed where the node is a column of its type, else left over.
-fn outermost(schema: &[u8], value: &[u8], out: &mut [u8], end: usize) -> Put
+fn outermost(schema: &[u8], value: &[u8], out: &mut [u8], end: usize) -> Option<usize>
     requires { Alone schema.now value.now × Room out.old 0 end × (length out.old ≤ most_row) }
     ensures { (alone : Alone schema.now value.now) → PutAs (place_bytes (names_used alone.normal.d) (cut alone.normal.node alone.normal.d)) out.old out.new 0 end result }
 {
-    let kind = schemas::kind_at(schema, 0);
-    match kind {
-        Kind::Leftover => enclosing::place(0x41, value, out, end),
-        Kind::Column(code) => {
-            let readings = heads::READINGS;
-            enclosing::column(&readings, code, value, out, end)
-        }
-        Kind::List => enclosing::place(0x41, value, out, end),
-        Kind::Fields => enclosing::place(0x41, value, out, end),
+    match schemas::kind_at(schema, 0) {
+        Kind::Column(code) => enclosing::column(&Readings::new(), code, value, out, end),
+        Kind::Leftover | Kind::List | Kind::Fields => enclosing::place(0x41, value, out, end),
     }
 }
 
@@ -35,10 +29,7 @@ pub fn alone(schema: &[u8], value: &[u8], room: &mut [u8], row: &mut [u8]) -> Ro
     ensures { (alone : Alone schema.now value.now) → RowAnswered (row_outcome alone.normal.node alone.normal.d) row.old row.new result }
 {
     let end = room.len();
-    let Put::At(start) = outermost(schema, value, room, end) else {
-        // Not answered: there is room.
-        return RowAnswer::Refused(Refusal::TooLarge);
-    };
-    let metadata = [0x11u8, 0x00, 0x00];
-    hand_out(&metadata, &room[start..end], row)
+    // There is room.
+    let start = outermost(schema, value, room, end).unwrap();
+    hand_out(&[0x11, 0x00, 0x00], &room[start..end], row)
 }

@@ -1,14 +1,12 @@
 -- The answers of the code that looks for an extent: one law for each, with the tests that led there.
+use Rattle.std.specs.Prelude.{Some, None}
 use mathlib.Core.List.{List, [], ◌∷◌}
-use mathlib.Core.Option.{some}
 use mathlib.Core.Path.{◌≡◌, refl, sym, ap, ◌∙◌}
 use Prim.Native.Nat.{ℕ, ◌+◌, ◌-◌, ◌^◌, ◌≤◌, ◌<◌}
 use native.Mathlib.Nat.{pow-le-pow_right}
 use native.Mathlib.Omega.{arith}
 use borrow.Author.Tests.{le-leb, lt-leb}
 use lib.ListN.{length}
-use Rattle.heads.specs.Extents.{extent_answer}
-use Rattle.heads.specs.declared.Extent.TheVariants.{Size, Unknown}
 use Rattle.numbers.specs.Little.{number_at}
 use Rattle.paper.specs.FirstBytes.{reading_of}
 use Rattle.paper.specs.Values.{head_size_of, container_extent, extent_by, extent}
@@ -20,8 +18,8 @@ use Rattle.heads.proofs.HeadLaws.{extent_as, head_offset, container_is}
 -- ---- a container
 
 module _ (s : List ℕ) (c i w : ℕ) where
-  pub count_missing : length s < 1 + c → Unknown ≡ extent_answer (container_extent c i w s)
-  unfolding container_extent given extent_answer
+  pub count_missing : length s < 1 + c → None ≡ container_extent c i w s
+  unfolding container_extent given
   count_missing h = rw (lt-leb (1 + c) (length s) h)
 
   module _ {count head : ℕ} (here : 1 + c ≤ length s) (is-count : count ≡ number_at s 1 c) (is-head : head ≡ head_size_of count c i w) where
@@ -32,14 +30,13 @@ module _ (s : List ℕ) (c i w : ℕ) where
     pub last_inside : w ≤ head
     last_inside = rw is-head (head_offset count c i w)
 
-    pub head_missing : length s < head → Unknown ≡ extent_answer (container_extent c i w s)
-    unfolding container_extent given extent_answer
+    pub head_missing : length s < head → None ≡ container_extent c i w s
+    unfolding container_extent given
     head_missing h = rw (← head_is, le-leb (1 + c) (length s) here, lt-leb head (length s) h)
 
-    pub head_told : {last : ℕ} → head ≤ length s → last ≡ number_at s (head - w) w → Size (head + last) ≡ extent_answer (container_extent c i w s)
-    unfolding extent_answer
+    pub head_told : {last : ℕ} → head ≤ length s → last ≡ number_at s (head - w) w → Some (head + last) ≡ container_extent c i w s
     head_told {last} h is_last =
-        let told : container_extent c i w s ≡ some (head + last) =
+        let told : container_extent c i w s ≡ Some (head + last) =
         container_is s c i w
         (record { count_there = here; head_there = rw (← head_is) h; spans = rw (← head_is, ← is_last) }) in
         rw told
@@ -56,35 +53,35 @@ module _ (s : List ℕ) (there : length s ≡ 0 → ⊥) (r : Reading) (is : r �
   by_reading : {known : Reading} → r ≡ known → extent s ≡ extent_by known s
   by_reading k = extent_as s there ∙ ap (λ (q : Reading). extent_by q s) (sym is ∙ k)
 
-  pub fixed_told : {code size : ℕ} → r ≡ Fixed code size → Size (1 + size) ≡ extent_answer (extent s)
-  unfolding extent_by extent_answer
-  fixed_told k = ap extent_answer (sym (by_reading k))
+  pub fixed_told : {code size : ℕ} → r ≡ Fixed code size → Some (1 + size) ≡ extent s
+  unfolding extent_by
+  fixed_told k = sym (by_reading k)
 
-  pub short_told : {size : ℕ} → r ≡ Short size → Size (1 + size) ≡ extent_answer (extent s)
-  unfolding extent_by extent_answer
-  short_told k = ap extent_answer (sym (by_reading k))
+  pub short_told : {size : ℕ} → r ≡ Short size → Some (1 + size) ≡ extent s
+  unfolding extent_by
+  short_told k = sym (by_reading k)
 
-  pub nothing_told : r ≡ Nothing → Unknown ≡ extent_answer (extent s)
-  unfolding extent_by extent_answer
-  nothing_told k = ap extent_answer (sym (by_reading k))
+  pub nothing_told : r ≡ Nothing → None ≡ extent s
+  unfolding extent_by
+  nothing_told k = sym (by_reading k)
 
-  pub length_missing : {code : ℕ} → r ≡ Prefixed code → length s < 5 → Unknown ≡ extent_answer (extent s)
-  unfolding extent_by extent_answer given
+  pub length_missing : {code : ℕ} → r ≡ Prefixed code → length s < 5 → None ≡ extent s
+  unfolding extent_by given
   length_missing k h = rw (by_reading k, lt-leb 5 (length s) h)
 
-  pub length_told : {code size : ℕ} → r ≡ Prefixed code → 5 ≤ length s → size ≡ number_at s 1 4 → Size (5 + size) ≡ extent_answer (extent s)
-  unfolding extent_by extent_answer given
+  pub length_told : {code size : ℕ} → r ≡ Prefixed code → 5 ≤ length s → size ≡ number_at s 1 4 → Some (5 + size) ≡ extent s
+  unfolding extent_by given
   length_told k h is-size = rw (by_reading k, le-leb 5 (length s) h, is-size)
 
-  pub object_told : {c i w : ℕ} → r ≡ ObjectHead c i w → extent_answer (container_extent c i w s) ≡ extent_answer (extent s)
+  pub object_told : {c i w : ℕ} → r ≡ ObjectHead c i w → container_extent c i w s ≡ extent s
   unfolding extent_by
-  object_told k = ap extent_answer (sym (by_reading k))
+  object_told k = sym (by_reading k)
 
-  pub array_told : {c w : ℕ} → r ≡ ArrayHead c w → extent_answer (container_extent c 0 w s) ≡ extent_answer (extent s)
+  pub array_told : {c w : ℕ} → r ≡ ArrayHead c w → container_extent c 0 w s ≡ extent s
   unfolding extent_by
-  array_told k = ap extent_answer (sym (by_reading k))
+  array_told k = sym (by_reading k)
 
-pub empty_told : (s : List ℕ) → length s ≡ 0 → Unknown ≡ extent_answer (extent s)
-unfolding extent extent_answer
+pub empty_told : (s : List ℕ) → length s ≡ 0 → None ≡ extent s
+unfolding extent
 empty_told [] e = refl
 empty_told (b ∷ s) e = absurd (omega arith)

@@ -1,7 +1,7 @@
 -- How long a value says it is: what an extent tells of the head, and that it looks at no byte past what it spans.
+use Rattle.std.specs.Prelude.{None, Some}
 use mathlib.Core.Bool.{◌&&◌}
 use mathlib.Core.List.{List, [], ◌∷◌, ◌++◌}
-use mathlib.Core.Option.{none, some}
 use mathlib.Core.Path.{◌≡◌, refl, sym, ap, ◌∙◌}
 use Prim.Native.Nat.{ℕ, zero, suc, ◌+◌, ◌-◌, ◌*◌, ◌^◌, ◌≤◌, ◌<◌, min}
 use native.Mathlib.Nat.{mul-le-mul, zero-add, suc-add}
@@ -25,9 +25,9 @@ unfolding extent
 extent_as [] h = absurd (h refl)
 extent_as (b ∷ s) h = refl
 
-pub extent_some : (s : List ℕ) {n : ℕ} → extent s ≡ some n → (1 ≤ length s) × (extent_by (reading_of (at s 0)) s ≡ some n)
+pub extent_some : (s : List ℕ) {n : ℕ} → extent s ≡ Some n → (1 ≤ length s) × (extent_by (reading_of (at s 0)) s ≡ Some n)
 unfolding extent is_there
-extent_some [] e = never (sym (some_there none e))
+extent_some [] e = never (sym (some_there None e))
 extent_some (b ∷ s) e = (omega arith, e)
 
 -- ---- heads
@@ -60,11 +60,11 @@ pub record Spans (s : List ℕ) (c i w n : ℕ) : Type 0 where
   pub spans : n ≡ head_size_of (number_at s 1 c) c i w + number_at s (head_size_of (number_at s 1 c) c i w - w) w
 
 module _ (s : List ℕ) (c i w : ℕ) where
-  pub container_some : {n : ℕ} → container_extent c i w s ≡ some n → Spans s c i w n
+  pub container_some : {n : ℕ} → container_extent c i w s ≡ Some n → Spans s c i w n
   unfolding container_extent
   container_some {n} e =
       let head : ℕ = head_size_of (number_at s 1 c) c i w in
-      let told = given_some (leb (1 + c) (length s) && leb head (length s)) (some (head + number_at s (head - w) w)) e in
+      let told = given_some (leb (1 + c) (length s) && leb head (length s)) (Some (head + number_at s (head - w) w)) e in
       let there = and_both (leb (1 + c) (length s)) (leb head (length s)) told.0 in
       record {
         count_there = leb-true (1 + c) (length s) there.0;
@@ -72,35 +72,35 @@ module _ (s : List ℕ) (c i w : ℕ) where
         spans = cc told.1;
       }
 
-  pub container_is : {n : ℕ} → Spans s c i w n → container_extent c i w s ≡ some n
+  pub container_is : {n : ℕ} → Spans s c i w n → container_extent c i w s ≡ Some n
   unfolding container_extent given
   container_is {n} t =
       let head : ℕ = head_size_of (number_at s 1 c) c i w in
       rw (le-leb (1 + c) (length s) t.count_there, le-leb head (length s) t.head_there, t.spans)
 
 module _ (s : List ℕ) {c w n : ℕ} where
-  pub object_spans : {i : ℕ} → reading_of (at s 0) ≡ ObjectHead c i w → extent s ≡ some n → Spans s c i w n
+  pub object_spans : {i : ℕ} → reading_of (at s 0) ≡ ObjectHead c i w → extent s ≡ Some n → Spans s c i w n
   unfolding extent_by
   object_spans {i} r e = container_some s c i w (rw r at (extent_some s e).1)
 
-  pub array_spans : reading_of (at s 0) ≡ ArrayHead c w → extent s ≡ some n → Spans s c 0 w n
+  pub array_spans : reading_of (at s 0) ≡ ArrayHead c w → extent s ≡ Some n → Spans s c 0 w n
   unfolding extent_by
   array_spans r e = container_some s c 0 w (rw r at (extent_some s e).1)
 
 -- ---- a value is at least one byte long
 
-positive_by : (r : Reading) (s : List ℕ) {n : ℕ} → extent_by r s ≡ some n → 1 ≤ n
+positive_by : (r : Reading) (s : List ℕ) {n : ℕ} → extent_by r s ≡ Some n → 1 ≤ n
 unfolding extent_by is_there
 positive_by (Fixed code size) s {n} e = let is : 1 + size ≡ n = cc in omega arith
 positive_by (Prefixed code) s {n} e =
-    let is : 5 + number_at s 1 4 ≡ n = cc (given_some (leb 5 (length s)) (some (5 + number_at s 1 4)) e).1 in
+    let is : 5 + number_at s 1 4 ≡ n = cc (given_some (leb 5 (length s)) (Some (5 + number_at s 1 4)) e).1 in
     omega arith
 positive_by (Short size) s {n} e = let is : 1 + size ≡ n = cc in omega arith
 positive_by (ObjectHead c i w) s e = omega (arith, (container_some s c i w e).spans, head_count (number_at s 1 c) c i w)
 positive_by (ArrayHead c w) s e = omega (arith, (container_some s c 0 w e).spans, head_count (number_at s 1 c) c 0 w)
-positive_by Nothing s e = never (sym (some_there none e))
+positive_by Nothing s e = never (sym (some_there None e))
 
-pub extent_positive : (s : List ℕ) {n : ℕ} → extent s ≡ some n → 1 ≤ n
+pub extent_positive : (s : List ℕ) {n : ℕ} → extent s ≡ Some n → 1 ≤ n
 extent_positive s e = positive_by (reading_of (at s 0)) s (extent_some s e).1
 
 -- ---- an extent looks at the head alone: bytes that share it have the same extent
@@ -127,7 +127,7 @@ module _ (s u : List ℕ) (m : ℕ) (shared : take m s ≡ take m u) where
       omega arith
 
   container_shared : (c i w : ℕ) {n : ℕ} → ((h : ℕ) → h ≤ n → h ≤ length s → h ≤ m)
-      → container_extent c i w s ≡ some n → container_extent c i w u ≡ some n
+      → container_extent c i w s ≡ Some n → container_extent c i w u ≡ Some n
   container_shared c i w near e =
       let t = container_some s c i w e in
       let head : ℕ = head_size_of (number_at s 1 c) c i w in
@@ -143,11 +143,11 @@ module _ (s u : List ℕ) (m : ℕ) (shared : take m s ≡ take m u) where
         spans = rw (count, last) t.spans;
       })
 
-  by_shared : (r : Reading) {n : ℕ} → ((h : ℕ) → h ≤ n → h ≤ length s → h ≤ m) → extent_by r s ≡ some n → extent_by r u ≡ some n
+  by_shared : (r : Reading) {n : ℕ} → ((h : ℕ) → h ≤ n → h ≤ length s → h ≤ m) → extent_by r s ≡ Some n → extent_by r u ≡ Some n
   unfolding extent_by given
   by_shared (Fixed code size) near e = e
   by_shared (Prefixed code) {n} near e =
-      let told = given_some (leb 5 (length s)) (some (5 + number_at s 1 4)) e in
+      let told = given_some (leb 5 (length s)) (Some (5 + number_at s 1 4)) e in
       let there : 5 ≤ length s = leb-true 5 (length s) told.0 in
       let is : 5 + number_at s 1 4 ≡ n = cc told.1 in
       let inside : 5 ≤ m = near 5 (omega arith) there in
@@ -160,7 +160,7 @@ module _ (s u : List ℕ) (m : ℕ) (shared : take m s ≡ take m u) where
   first_shared : 1 ≤ m → at u 0 ≡ at s 0
   first_shared h = sym (get_or-take m u 0 0 h) ∙ ap (λ (l : List ℕ). at l 0) (sym shared) ∙ get_or-take m s 0 0 h
 
-  pub extent_shared : {n : ℕ} → ((h : ℕ) → h ≤ n → h ≤ length s → h ≤ m) → extent s ≡ some n → extent u ≡ some n
+  pub extent_shared : {n : ℕ} → ((h : ℕ) → h ≤ n → h ≤ length s → h ≤ m) → extent s ≡ Some n → extent u ≡ Some n
   extent_shared near e =
       let told = extent_some s e in
       let one : 1 ≤ m = near 1 (extent_positive s e) told.0 in
@@ -168,8 +168,8 @@ module _ (s u : List ℕ) (m : ℕ) (shared : take m s ≡ take m u) where
       rw (extent_as u (λ z. omega arith), first_shared one) (by_shared (reading_of (at s 0)) near told.1)
 
 -- So of a value's own bytes, and with any bytes behind it.
-pub extent_take : (s : List ℕ) (m : ℕ) {n : ℕ} → extent s ≡ some n → n ≤ m → extent (take m s) ≡ some n
+pub extent_take : (s : List ℕ) (m : ℕ) {n : ℕ} → extent s ≡ Some n → n ≤ m → extent (take m s) ≡ Some n
 extent_take s m e h = extent_shared s (take m s) m (sym (take-take m m s (omega arith))) (λ k below there. omega arith) e
 
-pub extent_more : (s t : List ℕ) {n : ℕ} → extent s ≡ some n → extent (s ++ t) ≡ some n
+pub extent_more : (s t : List ℕ) {n : ℕ} → extent s ≡ Some n → extent (s ++ t) ≡ Some n
 extent_more s t e = extent_shared s (s ++ t) (length s) (take-length s ∙ sym (take-append_seam s t)) (λ k below there. there) e

@@ -6,7 +6,7 @@ use native.Mathlib.Nat.{zero-add}
 use native.Mathlib.Omega.{arith}
 use borrow.Author.Tests.{ne_eqb}
 use lib.ListN.{length, get_or}
-use Rattle.heads.specs.Packing.{unpack, Readings}
+use Rattle.heads.specs.Packing.{unpack, Packed}
 use Rattle.paper.specs.FirstBytes.{reading_of}
 use Rattle.paper.specs.declared.Reading.TheVariants.{Fixed, Prefixed, Short, ObjectHead, ArrayHead, Nothing}
 use Rattle.paper.specs.declared.Reading.{Reading}
@@ -40,7 +40,7 @@ entry table e k h = rw zero-add at (entry_from 0 table e k h)
 
 -- ---- what the code hands out under each kind
 
-module _ (table : List ℕ) (full : Readings table) (b p : ℕ) (small : b < 256) (is : p ≡ get_or table b 0) where
+module _ (table : List ℕ) (full : Packed table) (b p : ℕ) (small : b < 256) (is : p ≡ get_or table b 0) where
   e : unpack b p ≡ reading_of b
   e = ap (unpack b) is ∙ full.says b small
 

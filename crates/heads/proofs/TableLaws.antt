@@ -2,7 +2,7 @@
 use mathlib.Core.List.{List, [], ◌∷◌}
 use mathlib.Core.Path.{refl}
 use Prim.Native.Nat.{ℕ}
-use Rattle.heads.specs.Packing.{unpack, Readings}
+use Rattle.heads.specs.Packing.{unpack, Packed}
 use Rattle.paper.specs.FirstBytes.{length_prefixed, payload_sizes, primitive_reading, count_size, kind_reading, reading_of}
 use Rattle.heads.proofs.PackLaws.{unpacked_from, readings_from, entry}
 
@@ -25,6 +25,6 @@ readings =
     5 ∷ 2 ∷ 5 ∷ 5 ∷ 5 ∷ 2 ∷ 5 ∷ 5 ∷ 5 ∷ 2 ∷ 5 ∷ 5 ∷ 5 ∷ 2 ∷ 5 ∷ 5 ∷
     5 ∷ 2 ∷ 5 ∷ 5 ∷ 5 ∷ 2 ∷ 5 ∷ 5 ∷ 5 ∷ 2 ∷ 5 ∷ 5 ∷ 5 ∷ 2 ∷ 5 ∷ 5 ∷ []
 
-pub readings_all : Readings readings
+pub readings_all : Packed readings
 unfolding readings unpacked_from readings_from unpack reading_of kind_reading count_size primitive_reading payload_sizes length_prefixed
 readings_all = record { all = refl; says = entry readings refl }

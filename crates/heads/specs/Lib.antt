@@ -1,3 +1,2 @@
--- Readings as one number each, and how long a value says it is as an answer of the code.
+-- Readings as one number each.
 pub mod Packing
-pub mod Extents

@@ -16,6 +16,6 @@ unpack first packed =
     (cond (eqb (packed % 8) 4) (ArrayHead (1 + 3 * (size / 4)) (size % 4 + 1)) Nothing))))
 
 -- A table that has the reading of each first byte, packed, at its place.
-pub record Readings (table : List ℕ) : Type 0 where
+pub record Packed (table : List ℕ) : Type 0 where
   pub all : length table ≡ 256
   pub says : (first : ℕ) → first < 256 → unpack first (get_or table first 0) ≡ reading_of first

@@ -10,7 +10,7 @@ pub const SIZES: [usize; 21] = [
 
 // The 256 first bytes, each packed: its kind, which is 0 to 5 in the order of `Reading`, + 8 * its sizes: a payload's
 // size; an object's or an array's bits for its count, ids and offsets. What is not here, a type or a short string's size,
-// is the first byte / 4. One byte an entry: the table is laid on the stack at each look-up.
+// is the first byte / 4. One byte an entry: the table is laid on the stack once for each `Readings::new()`.
 pub const READINGS: [u8; 256] = [
     0, 2, 3, 4, 0, 2, 11, 12, 0, 2, 19, 20, 8, 2, 27, 28, 16, 2, 35, 36, 32, 2, 43, 44, 64, 2, 51,
     52, 64, 2, 59, 60, 40, 2, 67, 5, 72, 2, 75, 5, 136, 2, 83, 5, 32, 2, 91, 5, 64, 2, 99, 5, 64,

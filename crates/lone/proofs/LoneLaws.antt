@@ -1,14 +1,14 @@
 -- A cell alone: how long it is as a value, what is written of it, and what is answered.
+use Rattle.std.specs.Prelude.{Some, Ok}
 use mathlib.Core.Bool.{true}
 use mathlib.Core.List.{List, [], ◌∷◌, ◌++◌}
-use mathlib.Core.Option.{some}
 use mathlib.Core.Path.{◌≡◌, refl, sym, ap, subst, ◌∙◌}
 use Prim.Native.Nat.{ℕ, ◌+◌, ◌*◌, ◌%◌, ◌≤◌, ◌<◌}
 use native.Mathlib.Omega.{arith}
 use borrow.Author.Tests.{eq-eqb, ne_eqb, le-leb, lt-leb}
 use lib.ListN.{length, length-append}
 use Rattle.cells.proofs.CodeLaws.{code_most}
-use Rattle.normalise.proofs.AnswerLaws.{answer_large, answer-metadata_short, answer-value_short, answer_done}
+use Rattle.normalise.proofs.AnswerLaws.{lengths_same, handed_done}
 use Rattle.normalise.specs.Answered.{Answered}
 use Rattle.numbers.proofs.NumberLaws.{length-number_bytes}
 use Rattle.numbers.proofs.PutLaws.{put_run}
@@ -17,11 +17,9 @@ use Rattle.paper.specs.Cells.{cell_meaning}
 use Rattle.paper.specs.Limits.{most_value}
 use Rattle.paper.specs.Meaning.{Scalar, Doc, scalar, null}
 use Rattle.paper.specs.Normal.{add_names, names_used, numbers_bytes, offsets_from, metadata_width, metadata_bytes, text_bytes, prefixed_bytes, value_bytes, normal_form}
-use Rattle.paper.specs.Operations.{written}
+use Rattle.paper.specs.Operations.{written, lengths_of}
 use Rattle.paper.specs.Schemas.{column_code}
 use Rattle.paper.specs.Words.{at, joined}
-use Rattle.paper.specs.declared.DocumentAnswer.TheVariants.{Done, Short, Refused}
-use Rattle.paper.specs.declared.Refusal.TheVariants.{TooLarge}
 use Rattle.rebuilt.proofs.CellLaws.{cell_is}
 use Rattle.rebuilt.specs.Rebuilt.{cell_value}
 
@@ -34,44 +32,40 @@ prefixed_size code s = rw (length-append, length-number_bytes) (omega arith)
 module _ (code : ℕ) (s : List ℕ) where
   pub boolean_size : code ≡ 1 → 1 ≡ length (cell_value code s)
   unfolding cell_value
-  boolean_size e = rw (eq-eqb code 1 e)
+  boolean_size e = rw e
 
-  module _ (no-boolean : code ≡ 1 → ⊥) where
-    pub short_size : code ≡ 16 → length s ≤ 63 → 1 + length s ≡ length (cell_value code s)
-    unfolding cell_value text_bytes
-    short_size e few = rw (ne_eqb code 1 no-boolean, eq-eqb code 16 e, le-leb (length s) 63 few) (omega arith)
+  pub short_size : code ≡ 16 → length s ≤ 63 → 1 + length s ≡ length (cell_value code s)
+  unfolding cell_value text_bytes
+  short_size e few = rw (e, le-leb (length s) 63 few) (omega arith)
 
-    pub long_size : code ≡ 16 → 63 < length s → 5 + length s ≡ length (cell_value code s)
-    unfolding cell_value text_bytes
-    long_size e many = rw (ne_eqb code 1 no-boolean, eq-eqb code 16 e, lt-leb (length s) 63 many) (sym (prefixed_size 16 s))
+  pub long_size : code ≡ 16 → 63 < length s → 5 + length s ≡ length (cell_value code s)
+  unfolding cell_value text_bytes
+  long_size e many = rw (e, lt-leb (length s) 63 many) (sym (prefixed_size 16 s))
 
-    module _ (no_text : code ≡ 16 → ⊥) where
-      pub binary_size : code ≡ 15 → 5 + length s ≡ length (cell_value code s)
-      unfolding cell_value
-      binary_size e = rw (ne_eqb code 1 no-boolean, ne_eqb code 16 no_text, eq-eqb code 15 e) (sym (prefixed_size 15 s))
+  pub binary_size : code ≡ 15 → 5 + length s ≡ length (cell_value code s)
+  unfolding cell_value
+  binary_size e = rw e (sym (prefixed_size 15 s))
 
-      pub plain_size : (code ≡ 15 → ⊥) → 1 + length s ≡ length (cell_value code s)
-      unfolding cell_value
-      plain_size no-binary = rw (ne_eqb code 1 no-boolean, ne_eqb code 16 no_text, ne_eqb code 15 no-binary) (omega arith)
+  pub plain_size : (code ≡ 1 → ⊥) → (code ≡ 16 → ⊥) → (code ≡ 15 → ⊥) → 1 + length s ≡ length (cell_value code s)
+  unfolding cell_value
+  plain_size no_boolean no_text no_binary = rw (ne_eqb code 1 no_boolean, ne_eqb code 16 no_text, ne_eqb code 15 no_binary) (omega arith)
 
 -- Where the value has room, so have its parts.
 module _ (code : ℕ) (s : List ℕ) {room : ℕ} (fits : length (cell_value code s) ≤ room) where
   pub boolean_fits : code ≡ 1 → 0 + 1 ≤ room
   boolean_fits e = let size = boolean_size code s e in omega arith
 
-  module _ (no-boolean : code ≡ 1 → ⊥) where
-    pub short_fits : code ≡ 16 → length s ≤ 63 → 1 + length s ≤ room
-    short_fits e few = let size = short_size code s no-boolean e few in omega arith
+  pub short_fits : code ≡ 16 → length s ≤ 63 → 1 + length s ≤ room
+  short_fits e few = let size = short_size code s e few in omega arith
 
-    pub long_fits : code ≡ 16 → 63 < length s → 5 + length s ≤ room
-    long_fits e many = let size = long_size code s no-boolean e many in omega arith
+  pub long_fits : code ≡ 16 → 63 < length s → 5 + length s ≤ room
+  long_fits e many = let size = long_size code s e many in omega arith
 
-    module _ (no_text : code ≡ 16 → ⊥) where
-      pub binary_fits : code ≡ 15 → 5 + length s ≤ room
-      binary_fits e = let size = binary_size code s no-boolean no_text e in omega arith
+  pub binary_fits : code ≡ 15 → 5 + length s ≤ room
+  binary_fits e = let size = binary_size code s e in omega arith
 
-      pub plain_fits : (code ≡ 15 → ⊥) → 1 + length s ≤ room
-      plain_fits no-binary = let size = plain_size code s no-boolean no_text no-binary in omega arith
+  pub plain_fits : (code ≡ 1 → ⊥) → (code ≡ 16 → ⊥) → (code ≡ 15 → ⊥) → 1 + length s ≤ room
+  plain_fits no_boolean no_text no_binary = let size = plain_size code s no_boolean no_text no_binary in omega arith
 
 -- ---- what is written: one run behind another
 
@@ -106,29 +100,28 @@ first_small code wide known is = let most = code_most code known in omega arith
 module _ (code : ℕ) (s : List ℕ) (before : List ℕ) {after : List ℕ} where
   pub wrote_true : code ≡ 1 → at s 0 ≡ 1 → after ≡ put_at before 0 (number_bytes 1 4) → after ≡ put_at before 0 (cell_value code s)
   unfolding cell_value
-  wrote_true e one done = rw (eq-eqb code 1 e, eq-eqb (at s 0) 1 one) (done ∙ ap (put_at before 0) (one_byte 4 (omega arith)))
+  wrote_true e one done = rw (e, eq-eqb (at s 0) 1 one) (done ∙ ap (put_at before 0) (one_byte 4 (omega arith)))
 
   pub wrote_false : code ≡ 1 → (at s 0 ≡ 1 → ⊥) → after ≡ put_at before 0 (number_bytes 1 8) → after ≡ put_at before 0 (cell_value code s)
   unfolding cell_value
-  wrote_false e other done = rw (eq-eqb code 1 e, ne_eqb (at s 0) 1 other) (done ∙ ap (put_at before 0) (one_byte 8 (omega arith)))
+  wrote_false e other done = rw (e, ne_eqb (at s 0) 1 other) (done ∙ ap (put_at before 0) (one_byte 8 (omega arith)))
 
-  module _ (no-boolean : code ≡ 1 → ⊥) where
-    pub wrote_short : code ≡ 16 → length s ≤ 63 → after ≡ put_at before 0 ((4 * length s + 1) ∷ s) → after ≡ put_at before 0 (cell_value code s)
-    unfolding cell_value text_bytes
-    wrote_short e few done = rw (ne_eqb code 1 no-boolean, eq-eqb code 16 e, le-leb (length s) 63 few) done
+  pub wrote_short : code ≡ 16 → length s ≤ 63 → after ≡ put_at before 0 ((4 * length s + 1) ∷ s) → after ≡ put_at before 0 (cell_value code s)
+  unfolding cell_value text_bytes
+  wrote_short e few done = rw (e, le-leb (length s) 63 few) done
 
-    pub wrote_long : code ≡ 16 → 63 < length s → after ≡ put_at before 0 (prefixed_bytes 16 s) → after ≡ put_at before 0 (cell_value code s)
-    unfolding cell_value text_bytes
-    wrote_long e many done = rw (ne_eqb code 1 no-boolean, eq-eqb code 16 e, lt-leb (length s) 63 many) done
+  pub wrote_long : code ≡ 16 → 63 < length s → after ≡ put_at before 0 (prefixed_bytes 16 s) → after ≡ put_at before 0 (cell_value code s)
+  unfolding cell_value text_bytes
+  wrote_long e many done = rw (e, lt-leb (length s) 63 many) done
 
-    module _ (no_text : code ≡ 16 → ⊥) where
-      pub wrote_binary : code ≡ 15 → after ≡ put_at before 0 (prefixed_bytes 15 s) → after ≡ put_at before 0 (cell_value code s)
-      unfolding cell_value
-      wrote_binary e done = rw (ne_eqb code 1 no-boolean, ne_eqb code 16 no_text, eq-eqb code 15 e) done
+  pub wrote_binary : code ≡ 15 → after ≡ put_at before 0 (prefixed_bytes 15 s) → after ≡ put_at before 0 (cell_value code s)
+  unfolding cell_value
+  wrote_binary e done = rw e done
 
-      pub wrote_plain : (code ≡ 15 → ⊥) → (wide : ℕ) → wide ≡ code → after ≡ put_at before 0 ((4 * wide) ∷ s) → after ≡ put_at before 0 (cell_value code s)
-      unfolding cell_value
-      wrote_plain no-binary wide is done = rw (ne_eqb code 1 no-boolean, ne_eqb code 16 no_text, ne_eqb code 15 no-binary, ← is) done
+  pub wrote_plain : (code ≡ 1 → ⊥) → (code ≡ 16 → ⊥) → (code ≡ 15 → ⊥) → (wide : ℕ) → wide ≡ code → after ≡ put_at before 0 ((4 * wide) ∷ s)
+      → after ≡ put_at before 0 (cell_value code s)
+  unfolding cell_value
+  wrote_plain no_boolean no_text no_binary wide is done = rw (ne_eqb code 1 no_boolean, ne_eqb code 16 no_text, ne_eqb code 15 no_binary, ← is) done
 
 -- ---- metadata without names
 
@@ -140,79 +133,54 @@ three : 3 ≡ length (metadata_bytes [])
 unfolding number_bytes
 three = ap length no_names_lem
 
--- ---- what is answered of a document that uses no names
+-- ---- a document that uses no names: how long it is, and that it is written
 
-module _ (d : Doc) (none_used : [] ≡ names_used d) (value : List ℕ) (is : value ≡ (normal_form d).value) (size : ℕ) (long : size ≡ length value) (first second : List ℕ) where
-  lone_large : most_value < size → Answered (written d) first first second second (Refused TooLarge)
-  lone_large h = answer_large d value is first second (rw (← long) h)
+module _ (d : Doc) (none_used : [] ≡ names_used d) (value : List ℕ) (is : value ≡ (normal_form d).value) (size : ℕ) (long : size ≡ length value) where
+  lone_needed : lengths_of (normal_form d) ≡ record { metadata = 3; value = size }
+  lone_needed = lengths_same d [] none_used value is (record { metadata = 3; value = size }) three long
 
-  lone-metadata_short : size ≤ most_value → length first < 3 → Answered (written d) first first second second (Short 3 size)
-  lone-metadata_short fits h = rw long (answer-metadata_short d value is first second (rw (← long) fits) [] none_used 3 three h)
-
-  lone-value_short : size ≤ most_value → length second < size → Answered (written d) first first second second (Short 3 size)
-  lone-value_short fits h = rw long (answer-value_short d value is first second (rw (← long) fits) [] none_used 3 three (rw (← long) h))
-
-  lone_done : size ≤ most_value → 3 ≤ length first → size ≤ length second → {first' second' : List ℕ}
+  lone_done : {first first' second second' : List ℕ} → (size ≤ most_value) × (3 ≤ length first) × (size ≤ length second)
       → first' ≡ put_at first 0 (number_bytes 3 17) → second' ≡ put_at second 0 value
-      → Answered (written d) first first' second second' (Done 3 size)
-  lone_done fits room room' {first'} {second'} named valued =
-      rw long
-      (answer_done d value is first second (rw (← long) fits) [] none_used 3 three room (rw (← long) room') first' second'
-      (named ∙ ap (put_at first 0) no_names_lem) valued)
+      → Answered (written d) first first' second second' (Ok (record { metadata = 3; value = size }))
+  lone_done {first} room named valued =
+      handed_done d [] none_used value is (record { metadata = 3; value = size }) three long room (named ∙ ap (put_at first 0) no_names_lem) valued
 
 -- ---- of a cell
 
-module _ (code : ℕ) (s : List ℕ) (size : ℕ) (long : size ≡ length (cell_value code s)) (first second : List ℕ) where
-  cell_value_lem : (value : Scalar) → cell_meaning (record { code = code }) s ≡ some value → cell_value code s ≡ (normal_form (scalar value)).value
+module _ (code : ℕ) (s : List ℕ) (size : ℕ) (long : size ≡ length (cell_value code s)) (value : Scalar) (means : cell_meaning (record { code = code }) s ≡ Some value) where
+  cell_value_lem : cell_value code s ≡ (normal_form (scalar value)).value
   unfolding normal_form value_bytes
-  cell_value_lem value means = cell_is code s means
+  cell_value_lem = cell_is code s means
 
-  cell_names : (value : Scalar) → [] ≡ names_used (scalar value)
+  cell_names : [] ≡ names_used (scalar value)
   unfolding names_used add_names
-  cell_names value = refl
+  cell_names = refl
 
-  pub cell_large : most_value < size → (value : Scalar) → cell_meaning (record { code = code }) s ≡ some value
-      → Answered (written (scalar value)) first first second second (Refused TooLarge)
-  cell_large h value means = lone_large (scalar value) (cell_names value) _ (cell_value_lem value means) size long first second h
+  pub cell_needed : lengths_of (normal_form (scalar value)) ≡ record { metadata = 3; value = size }
+  cell_needed = lone_needed (scalar value) cell_names _ cell_value_lem size long
 
-  pub cell-metadata_short : size ≤ most_value → length first < 3 → (value : Scalar) → cell_meaning (record { code = code }) s ≡ some value
-      → Answered (written (scalar value)) first first second second (Short 3 size)
-  cell-metadata_short fits h value means =
-      lone-metadata_short (scalar value) (cell_names value) _ (cell_value_lem value means) size long first second fits h
-
-  pub cell_value-short : size ≤ most_value → length second < size → (value : Scalar) → cell_meaning (record { code = code }) s ≡ some value
-      → Answered (written (scalar value)) first first second second (Short 3 size)
-  cell_value-short fits h value means =
-      lone-value_short (scalar value) (cell_names value) _ (cell_value_lem value means) size long first second fits h
-
-  pub cell_done : size ≤ most_value → 3 ≤ length first → size ≤ length second → {first' second' : List ℕ}
+  pub cell_done : {first first' second second' : List ℕ} → (size ≤ most_value) × (3 ≤ length first) × (size ≤ length second)
       → first' ≡ put_at first 0 (number_bytes 3 17) → second' ≡ put_at second 0 (cell_value code s)
-      → (value : Scalar) → cell_meaning (record { code = code }) s ≡ some value
-      → Answered (written (scalar value)) first first' second second' (Done 3 size)
-  cell_done fits room room' named valued value means =
-      lone_done (scalar value) (cell_names value) _ (cell_value_lem value means) size long first second fits room room' named valued
+      → Answered (written (scalar value)) first first' second second' (Ok (record { metadata = 3; value = size }))
+  cell_done room named valued = lone_done (scalar value) cell_names _ cell_value_lem size long room named valued
 
 -- ---- of a null
 
-module _ (first second : List ℕ) where
-  null_names : [] ≡ names_used null
-  unfolding names_used add_names
-  null_names = refl
+null_names : [] ≡ names_used null
+unfolding names_used add_names
+null_names = refl
 
-  null_value : number_bytes 1 0 ≡ (normal_form null).value
-  unfolding normal_form value_bytes number_bytes
-  null_value = refl
+null_value : number_bytes 1 0 ≡ (normal_form null).value
+unfolding normal_form value_bytes number_bytes
+null_value = refl
 
-  null_size : 1 ≡ length (number_bytes 1 0)
-  null_size = sym (length-number_bytes 1 0)
+null_size : 1 ≡ length (number_bytes 1 0)
+null_size = sym (length-number_bytes 1 0)
 
-  pub null-metadata_short : length first < 3 → Answered (written null) first first second second (Short 3 1)
-  null-metadata_short h = lone-metadata_short null null_names _ null_value 1 null_size first second (omega arith) h
+pub null_needed : lengths_of (normal_form null) ≡ record { metadata = 3; value = 1 }
+null_needed = lone_needed null null_names _ null_value 1 null_size
 
-  pub null-value_short : length second < 1 → Answered (written null) first first second second (Short 3 1)
-  null-value_short h = lone-value_short null null_names _ null_value 1 null_size first second (omega arith) h
-
-  pub null_done : 3 ≤ length first → 1 ≤ length second → {first' second' : List ℕ}
-      → first' ≡ put_at first 0 (number_bytes 3 17) → second' ≡ put_at second 0 (number_bytes 1 0)
-      → Answered (written null) first first' second second' (Done 3 1)
-  null_done room room' named valued = lone_done null null_names _ null_value 1 null_size first second (omega arith) room room' named valued
+pub null_done : {first first' second second' : List ℕ} → (1 ≤ most_value) × (3 ≤ length first) × (1 ≤ length second)
+    → first' ≡ put_at first 0 (number_bytes 3 17) → second' ≡ put_at second 0 (number_bytes 1 0)
+    → Answered (written null) first first' second second' (Ok (record { metadata = 3; value = 1 }))
+null_done room named valued = lone_done null null_names _ null_value 1 null_size room named valued

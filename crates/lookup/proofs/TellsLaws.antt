@@ -1,4 +1,5 @@
 -- What an answer tells of a name: whether the name is among the names, and of an id that it has the name.
+use Rattle.std.specs.Prelude.{Option, Some, None}
 use mathlib.Core.Bool.{true, false}
 use mathlib.Core.List.{List, []}
 use mathlib.Core.Path.{◌≡◌}
@@ -7,8 +8,6 @@ use native.Mathlib.Omega.{arith}
 use lib.ListN.{length, get_or}
 use Rattle.dictionary.specs.declared.ids.InputId.{InputId}
 use Rattle.lookup.specs.Looking.{Tells, found, missing}
-use Rattle.lookup.specs.declared.Looked.{Looked}
-use Rattle.lookup.specs.declared.Looked.TheVariants.{At, Nowhere}
 use Rattle.names.proofs.SameLaws.{among_at}
 use Rattle.paper.specs.Metadata.{Dictionary}
 use Rattle.paper.specs.Words.{among}
@@ -17,20 +16,20 @@ use Rattle.paper.specs.Words.{among}
 other : {A : Type 0} → ◌≡◌ {A = ℕ} 0 1 → A
 other e = absurd (omega arith)
 
-module _ {names : Dictionary} {name : List ℕ} {looked : Looked} (tells : Tells names name looked) where
-  pub tells_id : {id : InputId} → looked ≡ At id → (id.0 < length names) × (get_or names id.0 [] ≡ name)
+module _ {names : Dictionary} {name : List ℕ} {looked : Option InputId} (tells : Tells names name looked) where
+  pub tells_id : {id : InputId} → looked ≡ Some id → (id.0 < length names) × (get_or names id.0 [] ≡ name)
   tells_id {id} e = go tells e
     where
-      go : {answer : Looked} → Tells names name answer → answer ≡ At id → (id.0 < length names) × (get_or names id.0 [] ≡ name)
+      go : {answer : Option InputId} → Tells names name answer → answer ≡ Some id → (id.0 < length names) × (get_or names id.0 [] ≡ name)
       go (found told within is) f = let same : told ≡ id = cc in rw (← same) (within, is)
       go (missing none_has) f = other cc
 
-  pub tells_among : {id : InputId} → looked ≡ At id → among name names ≡ true
+  pub tells_among : {id : InputId} → looked ≡ Some id → among name names ≡ true
   tells_among {id} e = let has = tells_id e in rw has.1 at (among_at names id.0 has.0)
 
-  pub tells_missing : looked ≡ Nowhere → among name names ≡ false
+  pub tells_missing : looked ≡ None → among name names ≡ false
   tells_missing e = go tells e
     where
-      go : {answer : Looked} → Tells names name answer → answer ≡ Nowhere → among name names ≡ false
+      go : {answer : Option InputId} → Tells names name answer → answer ≡ None → among name names ≡ false
       go (found told within is) f = other cc
       go (missing none_has) f = none_has

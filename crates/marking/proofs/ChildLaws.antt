@@ -1,7 +1,7 @@
 -- Marking inside one child: what is no container has no ids inside, and a child that is there is marked as its own bytes are.
+use Rattle.std.specs.Prelude.{Option, None, Some}
 use mathlib.Core.Bool.{Bool, true, false, cond}
 use mathlib.Core.List.{List, []}
-use mathlib.Core.Option.{Option, none, some}
 use mathlib.Core.Path.{◌≡◌, refl, sym, ap, ◌∙◌}
 use Prim.Native.Nat.{ℕ, zero, suc, ◌+◌, ◌-◌, ◌/◌, ◌%◌, ◌≤◌, ◌<◌}
 use native.Mathlib.Nat.{add-zero}
@@ -9,9 +9,6 @@ use native.Mathlib.Omega.{arith}
 use lib.Dec.{leb, eqb}
 use lib.ListN.{length, get_or, take, drop}
 use lib.Seq.{get_or-take, get_or-drop}
-use Rattle.heads.specs.Extents.{extent_answer}
-use Rattle.heads.specs.declared.Extent.TheVariants.{Size, Unknown}
-use Rattle.heads.specs.declared.Extent.{Extent}
 use Rattle.marking.specs.Ids.{ids_by, ids_in, mark_ids}
 use Rattle.marking.specs.Marking.{Markable, MarkableChild, ids_of_sized, ids_at}
 use Rattle.paper.specs.FirstBytes.{length_prefixed, payload_sizes, primitive_reading, kind_reading, reading_of}
@@ -24,7 +21,6 @@ use Rattle.paper.proofs.WordLaws.{never, there_some}
 use Rattle.containers.proofs.ChildLaws.{extent_fits}
 use Rattle.values.proofs.InsideLaws.{child_judged}
 use Rattle.containers.proofs.OwnLaws.{child_starts, known, own_is, child_asks as own-asks}
-use Rattle.containers.proofs.LengthLaws.{unknown_none}
 
 -- ---- no container, no ids
 
@@ -53,17 +49,17 @@ no_ids (suc levels) s h = none_by (ids_in levels) (at s 0) s h
 
 first_there : {A B : Type 0} (x : Option A) (next : A → Option B) → is_there (and_then x next) ≡ true → is_there x ≡ true
 unfolding and_then is_there
-first_there none next e = e
-first_there (some a) next e = refl
+first_there None next e = e
+first_there (Some a) next e = refl
 
-first_own : (area : List ℕ) (start size : ℕ) → child_extent area start ≡ some size
+first_own : (area : List ℕ) (start size : ℕ) → child_extent area start ≡ Some size
     → at (child_bytes area (record { start = start; size = size })) 0 ≡ at area start
 unfolding child_bytes
 first_own area start size long =
     let least : 1 ≤ size = extent_positive (drop start area) (extent_fits area start size long).0 in
     get_or-take size (drop start area) 0 0 least ∙ get_or-drop start area 0 0 ∙ ap (at area) (add-zero start)
 
-sized_ids : (inner : List ℕ → List ℕ) (area : List ℕ) (start size : ℕ) → child_extent area start ≡ some size
+sized_ids : (inner : List ℕ → List ℕ) (area : List ℕ) (start size : ℕ) → child_extent area start ≡ Some size
     → ids_at inner area start ≡ inner (child_bytes area (record { start = start; size = size }))
 unfolding ids_at ids_of_sized
 sized_ids inner area start size long = rw long
@@ -85,13 +81,13 @@ module _ {levels : ℕ} {area : List ℕ} {start room : ℕ} (markable : Markabl
       no_ids levels (child_bytes area (record { start = start; size = has.0 })) (rw (first_own area start has.0 has.1) h) in
       sym (ap (mark_ids used) (sized_ids (ids_in levels) area start has.0 has.1 ∙ none_inside))
 
-  module _ (r : Extent) (told : r ≡ extent_answer (child_extent area start)) where
+  module _ (r : Option ℕ) (told : r ≡ child_extent area start) where
     -- it has its length
-    pub child_lost : r ≡ Unknown → (used : List ℕ) → used ≡ mark_ids used (ids_at (ids_in levels) area start)
+    pub child_lost : r ≡ None → (used : List ℕ) → used ≡ mark_ids used (ids_at (ids_in levels) area start)
     unfolding is_there
-    child_lost e used = never (sym there ∙ ap is_there (unknown_none (child_extent area start) (sym told ∙ e)))
+    child_lost e used = never (sym there ∙ ap is_there (sym told ∙ e))
 
-    module _ (size : ℕ) (e : r ≡ Size size) where
+    module _ (size : ℕ) (e : r ≡ Some size) where
       pub child_asks : Markable levels (take (start + size - start) (drop start area)) room
       child_asks =
           record {
@@ -104,5 +100,5 @@ module _ {levels : ℕ} {area : List ℕ} {start room : ℕ} (markable : Markabl
       pub child_marked : (used after : List ℕ) → after ≡ mark_ids used (ids_in levels (take (start + size - start) (drop start area)))
           → after ≡ mark_ids used (ids_at (ids_in levels) area start)
       child_marked used after f =
-          let long : child_extent area start ≡ some size = known area start r told size e in
+          let long : child_extent area start ≡ Some size = known area start r told size e in
           f ∙ ap (mark_ids used) (ap (ids_in levels) (own_is area start size long) ∙ sym (sized_ids (ids_in levels) area start size long))

@@ -1,7 +1,7 @@
 -- The ids inside a lawful value: each is below the dictionary's count, and their names are the names that its document uses.
+use Rattle.std.specs.Prelude.{Option, None, Some}
 use mathlib.Core.Bool.{Bool, true, false, ◌&&◌, ◌||◌}
 use mathlib.Core.List.{List, [], ◌∷◌, ◌++◌, map-append}
-use mathlib.Core.Option.{Option, none, some, some-injective}
 use mathlib.Core.Path.{◌≡◌, refl, sym, ap, ◌∙◌}
 use Prim.Native.Nat.{ℕ, zero, suc, ◌+◌, ◌*◌, ◌≤◌}
 use native.Mathlib.Nat.{suc-mul}
@@ -16,16 +16,18 @@ use Rattle.paper.proofs.MeaningLaws.{prefixed_doc, string_is, prefixed_is}
 use Rattle.paper.specs.FirstBytes.{reading_of}
 use Rattle.paper.specs.Meaning.{boolean, payload, text, Doc, null, scalar, array, object, Docs, no_docs, doc, Fields, no_fields, field}
 use Rattle.paper.specs.Metadata.{Dictionary, rising}
-use Rattle.paper.specs.Values.{Child, head_size_of, child_bytes, area_of, starts_of, ids_of, names_at, elements_of, members_of, primitive_meaning, element_docs, member_docs, meaning_by, meaning_of, whole}
+use Rattle.paper.specs.Values.{head_size_of, child_bytes, area_of, starts_of, ids_of, names_at, elements_of, members_of, primitive_meaning, element_docs, member_docs, meaning_by, meaning_of, whole}
+use Rattle.paper.specs.declared.Child.{Child}
 use Rattle.paper.specs.Words.{at, same, among, all_below, is_there}
 use Rattle.paper.specs.declared.Reading.TheVariants.{Fixed, Prefixed, Short, ObjectHead, ArrayHead, Nothing}
 use Rattle.paper.specs.declared.Reading.{Reading}
-use Rattle.dictionary.proofs.NumbersRunLaws.{run_length}
+use Rattle.runs.proofs.NumbersRunLaws.{run_length}
 use Rattle.forms.proofs.LieLaws.{elements_lie, members_lie, lie_count}
 use Rattle.heads.proofs.HeadLaws.{Spans, object_spans}
 use Rattle.heads.proofs.ReadingLaws.{object_sizes}
 use Rattle.paper.proofs.WordLaws.{never, given_some, then_some, some_there, and_both}
 use Rattle.values.proofs.PrimitiveLaws.{whole_extent}
+use Rattle.std.proofs.lemmas.Option.{same_Some}
 
 -- ---- ids, then more ids
 
@@ -75,24 +77,24 @@ both_used {names} {ids} {more} {used} {further} first second =
 -- ---- inside children
 
 module _ (names : Dictionary) (inner : List ℕ → Option Doc) (ids : List ℕ → List ℕ)
-    (each : (s : List ℕ) (d : Doc) → inner s ≡ some d → Names names (ids s) (λ name. used_in name d)) (area : List ℕ) where
-  elements_used : (children : List Child) (ds : Docs) → element_docs inner area children ≡ some ds
+    (each : (s : List ℕ) (d : Doc) → inner s ≡ Some d → Names names (ids s) (λ name. used_in name d)) (area : List ℕ) where
+  elements_used : (children : List Child) (ds : Docs) → element_docs inner area children ≡ Some ds
       → Names names (ids_of_all ids area children) (λ name. used_in_all name ds)
   unfolding element_docs ids_of_all used_in
-  elements_used [] ds e = rw (← some-injective no_docs ds e) (none_used names)
+  elements_used [] ds e = rw (← same_Some no_docs ds e) (none_used names)
   elements_used (child ∷ more) ds e =
       let first = then_some (inner (child_bytes area child)) _ e in
       let rest = then_some (element_docs inner area more) _ first.2 in
-      rw (← some-injective (doc first.0 rest.0) ds rest.2)
+      rw (← same_Some (doc first.0 rest.0) ds rest.2)
       (both_used (each (child_bytes area child) first.0 first.1) (elements_used more rest.0 rest.1))
 
   -- The names of an object's own ids come first, so that those inside its children are told beside them.
   members_used : (fields : List (List ℕ)) (children : List Child) (fs : Fields) → length fields ≡ length children
-      → member_docs inner area fields children ≡ some fs
+      → member_docs inner area fields children ≡ Some fs
       → (all_below (length names) (ids_of_all ids area children) ≡ true)
       × ((name : List ℕ) → among name fields || among name (names_at names (ids_of_all ids area children)) ≡ used_in_fields name fs)
   unfolding member_docs ids_of_all used_in among all_below names_at
-  members_used [] [] fs count e = rw (← some-injective no_fields fs e) (refl, λ name. refl)
+  members_used [] [] fs count e = rw (← same_Some no_fields fs e) (refl, λ name. refl)
   members_used [] (child ∷ more) fs count e = absurd (omega arith)
   members_used (field-name ∷ fields) [] fs count e = absurd (omega arith)
   members_used (field-name ∷ fields) (child ∷ more) fs count e =
@@ -100,7 +102,7 @@ module _ (names : Dictionary) (inner : List ℕ → Option Doc) (ids : List ℕ 
       let rest = then_some (member_docs inner area fields more) _ first.2 in
       let own = each (child_bytes area child) first.0 first.1 in
       let others = members_used fields more rest.0 (omega arith) rest.1 in
-      rw (← some-injective (field field-name first.0 rest.0) fs rest.2) (
+      rw (← same_Some (field field-name first.0 rest.0) fs rest.2) (
         below_append (length names) (ids (child_bytes area child)) (ids_of_all ids area more) own.below others.0,
         λ name. ap (λ (b : Bool). (same field-name name || among name fields) || b)
             (among_ids names name (ids (child_bytes area child)) (ids_of_all ids area more)
@@ -118,14 +120,14 @@ module _ (names : Dictionary) (inner : List ℕ → Option Doc) (ids : List ℕ 
 -- ---- a value by its first byte
 
 -- A scalar uses no name.
-primitive_used : (type : ℕ) (s : List ℕ) (d : Doc) → primitive_meaning type s ≡ some d → (name : List ℕ) → false ≡ used_in name d
+primitive_used : (type : ℕ) (s : List ℕ) (d : Doc) → primitive_meaning type s ≡ Some d → (name : List ℕ) → false ≡ used_in name d
 unfolding primitive_meaning used_in
-primitive_used zero s d e name = rw (← some-injective null d e)
-primitive_used (suc zero) s d e name = rw (← some-injective (scalar (boolean true)) d e)
-primitive_used (suc (suc zero)) s d e name = rw (← some-injective (scalar (boolean false)) d e)
+primitive_used zero s d e name = rw (← same_Some null d e)
+primitive_used (suc zero) s d e name = rw (← same_Some (scalar (boolean true)) d e)
+primitive_used (suc (suc zero)) s d e name = rw (← same_Some (scalar (boolean false)) d e)
 primitive_used (suc (suc (suc more))) s d e name =
     let type : ℕ = suc (suc (suc more)) in
-    rw (← some-injective (scalar (payload type s)) d (given_some _ (some (scalar (payload type s))) e).1)
+    rw (← same_Some (scalar (payload type s)) d (given_some _ (Some (scalar (payload type s))) e).1)
 
 unused : (names : Dictionary) (d : Doc) → ((name : List ℕ) → false ≡ used_in name d) → Names names [] (λ name. used_in name d)
 unused names d e = record { below = (none_used names).below; exact = λ name. (none_used names).exact name ∙ e name }
@@ -141,15 +143,15 @@ ids_starts s c i w n spans id_least least =
     ∙ sym (run_length w count (drop (1 + c + count * i) s) least (rw length-drop (omega arith)))
 
 module _ (names : Dictionary) (inner : List ℕ → Option Doc) (ids : List ℕ → List ℕ)
-    (each : (s : List ℕ) (d : Doc) → inner s ≡ some d → Names names (ids s) (λ name. used_in name d)) (s : List ℕ) (fills : whole s ≡ true) where
-  array_used : (c w : ℕ) (children : List Child) → elements_of c w s ≡ some children → (ds : Docs) → element_docs inner (area_of c 0 w s) children ≡ some ds
+    (each : (s : List ℕ) (d : Doc) → inner s ≡ Some d → Names names (ids s) (λ name. used_in name d)) (s : List ℕ) (fills : whole s ≡ true) where
+  array_used : (c w : ℕ) (children : List Child) → elements_of c w s ≡ Some children → (ds : Docs) → element_docs inner (area_of c 0 w s) children ≡ Some ds
       → Names names (ids_by ids (ArrayHead c w) s) (λ name. used_in name (array ds))
   unfolding ids_by ids_inside used_in
   array_used c w children lie ds e =
       rw (elements_lie s c w children lie).are (elements_used names inner ids each (area_of c 0 w s) children ds e)
 
-  object_used : (c i w : ℕ) → reading_of (at s 0) ≡ ObjectHead c i w → (children : List Child) → members_of names c i w s ≡ some children
-      → (fs : Fields) → member_docs inner (area_of c i w s) (names_at names (ids_of c i s)) children ≡ some fs
+  object_used : (c i w : ℕ) → reading_of (at s 0) ≡ ObjectHead c i w → (children : List Child) → members_of names c i w s ≡ Some children
+      → (fs : Fields) → member_docs inner (area_of c i w s) (names_at names (ids_of c i s)) children ≡ Some fs
       → Names names (ids_by ids (ObjectHead c i w) s) (λ name. used_in name (object fs))
   unfolding ids_by ids_inside used_in members_of names_at
   object_used c i w is children lie fs e =
@@ -167,7 +169,7 @@ module _ (names : Dictionary) (inner : List ℕ → Option Doc) (ids : List ℕ 
         exact = λ name. among_ids names name (ids_of c i s) (ids_of_all ids (area_of c i w s) children) ∙ inside.1 name;
       })
 
-  used_by : (d : Doc) (r : Reading) → reading_of (at s 0) ≡ r → meaning_by inner names r s ≡ some d → Names names (ids_by ids r s) (λ name. used_in name d)
+  used_by : (d : Doc) (r : Reading) → reading_of (at s 0) ≡ r → meaning_by inner names r s ≡ Some d → Names names (ids_by ids r s) (λ name. used_in name d)
   unfolding meaning_by ids_by is_there used_in
   used_by d (Fixed type size) is e = unused names d (primitive_used type (drop 1 s) d e)
   used_by d (Prefixed type) is e =
@@ -176,27 +178,27 @@ module _ (names : Dictionary) (inner : List ℕ → Option Doc) (ids : List ℕ 
   used_by d (ObjectHead c i w) is e =
       let lie = then_some (members_of names c i w s) _ e in
       let inside = then_some (member_docs inner (area_of c i w s) (names_at names (ids_of c i s)) lie.0) _ lie.2 in
-      rw (← some-injective (object inside.0) d inside.2) (object_used c i w is lie.0 lie.1 inside.0 inside.1)
+      rw (← same_Some (object inside.0) d inside.2) (object_used c i w is lie.0 lie.1 inside.0 inside.1)
   used_by d (ArrayHead c w) is e =
       let lie = then_some (elements_of c w s) _ e in
       let inside = then_some (element_docs inner (area_of c 0 w s) lie.0) _ lie.2 in
-      rw (← some-injective (array inside.0) d inside.2) (array_used c w lie.0 lie.1 inside.0 inside.1)
-  used_by d Nothing is e = never (sym (some_there none e))
+      rw (← same_Some (array inside.0) d inside.2) (array_used c w lie.0 lie.1 inside.0 inside.1)
+  used_by d Nothing is e = never (sym (some_there None e))
 
 -- ---- any value
 
-ids_names : (levels : ℕ) (names : Dictionary) (s : List ℕ) (d : Doc) → meaning_of levels names s ≡ some d
+ids_names : (levels : ℕ) (names : Dictionary) (s : List ℕ) (d : Doc) → meaning_of levels names s ≡ Some d
     → Names names (ids_in levels s) (λ name. used_in name d)
 unfolding meaning_of ids_in is_there
-ids_names zero names s d e = never (sym (some_there none e))
+ids_names zero names s d e = never (sym (some_there None e))
 ids_names (suc levels) names s d e =
     let told = given_some (whole s) _ e in
     used_by names (meaning_of levels names) (ids_in levels) (λ t c f. ids_names levels names t c f) s told.0 d (reading_of (at s 0)) refl told.1
 
-pub ids_below_lem : (levels : ℕ) (names : Dictionary) (s : List ℕ) (d : Doc) → meaning_of levels names s ≡ some d
+pub ids_below_lem : (levels : ℕ) (names : Dictionary) (s : List ℕ) (d : Doc) → meaning_of levels names s ≡ Some d
     → all_below (length names) (ids_in levels s) ≡ true
 ids_below_lem levels names s d e = (ids_names levels names s d e).below
 
-pub ids_used : (levels : ℕ) (names : Dictionary) (s : List ℕ) (d : Doc) → meaning_of levels names s ≡ some d
+pub ids_used : (levels : ℕ) (names : Dictionary) (s : List ℕ) (d : Doc) → meaning_of levels names s ≡ Some d
     → (name : List ℕ) → among name (names_at names (ids_in levels s)) ≡ used_in name d
 ids_used levels names s d e = (ids_names levels names s d e).exact

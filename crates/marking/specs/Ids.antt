@@ -1,8 +1,8 @@
 -- The ids of the objects inside a value: an object's own, then those inside its children.
-use Rattle.std.specs.Prelude.{Bool, false, ◌||◌, List, [], ◌∷◌, ◌++◌, ℕ, zero, suc, eqb, set}
-use Rattle.std.proofs.Math.Option.{Option, none, some}
+use Rattle.std.specs.Prelude.{Bool, false, ◌||◌, List, [], ◌∷◌, ◌++◌, ℕ, zero, suc, eqb, set, Option, None, Some}
 use Rattle.paper.specs.FirstBytes.{reading_of}
-use Rattle.paper.specs.Values.{Child, children_at, child_bytes, area_of, starts_of, ids_of}
+use Rattle.paper.specs.Values.{children_at, child_bytes, area_of, starts_of, ids_of}
+use Rattle.paper.specs.declared.Child.{Child}
 use Rattle.paper.specs.Words.{at}
 use Rattle.paper.specs.declared.Reading.{Reading}
 use Rattle.paper.specs.declared.Reading.TheVariants.{Fixed, Prefixed, Short, ObjectHead, ArrayHead, Nothing}
@@ -13,8 +13,8 @@ ids_of_all inner area [] = []
 ids_of_all inner area (child ∷ more) = inner (child_bytes area child) ++ ids_of_all inner area more
 
 unfoldable pub ids_inside : (List ℕ → List ℕ) → List ℕ → Option (List Child) → List ℕ
-ids_inside inner area none = []
-ids_inside inner area (some children) = ids_of_all inner area children
+ids_inside inner area None = []
+ids_inside inner area (Some children) = ids_of_all inner area children
 
 unfoldable pub ids_by : (List ℕ → List ℕ) → Reading → List ℕ → List ℕ
 ids_by inner (Fixed type size) s = []

@@ -7,7 +7,7 @@ use Prim.Native.Nat.{ℕ, suc, ◌+◌, ◌*◌, ◌^◌, ◌≤◌, ◌<◌}
 use native.Mathlib.Nat.{zero-add, mul-zero, mul-le-mul, mul-one}
 use native.Mathlib.Omega.{arith}
 use lib.ListN.{length, get_or, length-map}
-use Rattle.containers.specs.Layouts.{Container}
+use Rattle.containers.specs.Layouts.{HeadThere}
 use Rattle.forms.proofs.BackLaws.{ids_length, ids_below_lem}
 use Rattle.forms.proofs.ContainerLaws.{large_most, count_holds, largest_below, below_largest, count_of, width_of, parts_fit, array_filled, object_filled, object_length}
 use Rattle.forms.proofs.FirstByteLaws.{array_reading, object_reading}
@@ -43,7 +43,7 @@ module _ (parts : List (List ℕ)) where
       array_reading (width_of parts) (large_bit (length parts)) bounds.0 bounds.1 (large_most (length parts))
 
   module _ (small : length (array_bytes parts) ≤ most_walked) where
-    pub array_container : Container (array_bytes parts) (count_of parts) 0 (width_of parts)
+    pub array_container : HeadThere (array_bytes parts) (count_of parts) 0 (width_of parts)
     unfolding extent_by
     array_container =
         let filled = (extent_some (array_bytes parts) (array_filled parts (omega arith))).1 in
@@ -80,7 +80,7 @@ module _ (ids : List ℕ) (parts : List (List ℕ)) where
       (large_most (length parts))
 
   module _ (same : length ids ≡ length parts) (small : length (object_bytes ids parts) ≤ most_walked) where
-    pub object_container : Container (object_bytes ids parts) (count_of parts) id_width (width_of parts)
+    pub object_container : HeadThere (object_bytes ids parts) (count_of parts) id_width (width_of parts)
     unfolding extent_by
     object_container =
         let filled = (extent_some (object_bytes ids parts) (object_filled ids parts same (omega arith))).1 in
@@ -141,7 +141,7 @@ module _ (names : Dictionary) (few : length names ≤ 2 ^ 32) (fs : Fields) (the
   abbrev field_ids : List ℕ
   field_ids = map (id_of names) (field_names fs)
 
-  pub fields_container : Container (value_bytes names (object fs)) (count_of (member_bytes names fs)) (smallest_width (largest field_ids)) (width_of (member_bytes names fs))
+  pub fields_container : HeadThere (value_bytes names (object fs)) (count_of (member_bytes names fs)) (smallest_width (largest field_ids)) (width_of (member_bytes names fs))
   unfolding value_bytes
   fields_container = object_container field_ids (member_bytes names fs) (ids_length names fs) small
 

@@ -6,7 +6,7 @@ use mathlib.Core.Path.{◌≡◌, refl, sym, ap, ◌∙◌}
 use Prim.Native.Nat.{ℕ, ◌*◌, ◌^◌, ◌≤◌}
 use native.Mathlib.Omega.{arith}
 use lib.ListN.{length}
-use Rattle.containers.specs.Layouts.{Container}
+use Rattle.containers.specs.Layouts.{HeadThere}
 use Rattle.forms.proofs.ContainerLaws.{count_of, width_of}
 use Rattle.forms.specs.WellFormed.{well_formed, names_there, field_names_there}
 use Rattle.members.proofs.HeldLaws.{array_reads, array_container, array_parted, object_reads, fields_container, fields_held, fields_twice}
@@ -27,14 +27,14 @@ use Rattle.paper.specs.declared.Reading.{Reading}
 pub record ArrayOpened (names : Dictionary) (d : Doc) (s : List ℕ) (counted width : ℕ) : Type 0 where
   pub docs : Docs
   pub is : d ≡ array docs
-  pub container : Container s counted 0 width
+  pub container : HeadThere s counted 0 width
   pub parted : (m : Members) → MembersAt s counted 0 width m → Parted s m (element_bytes names docs)
 
 -- An object.
 pub record ObjectOpened (names : Dictionary) (d : Doc) (s : List ℕ) (counted id width : ℕ) : Type 0 where
   pub fs : Fields
   pub is : d ≡ object fs
-  pub container : Container s counted id width
+  pub container : HeadThere s counted id width
   pub held : (m : Members) → MembersAt s counted id width m → Held names s m fs
   pub twice : 2 * length (field_names fs) ≤ length s
 

@@ -8,7 +8,7 @@ use native.Mathlib.Omega.{arith}
 use lib.ListN.{length}
 use mir.Syntax.{w64}
 use mir.Val.{Fits}
-use Rattle.dictionary.proofs.NumbersRunLaws.{run_there}
+use Rattle.runs.proofs.NumbersRunLaws.{run_there}
 use Rattle.members.specs.Members.{start_at, member_part, PartThere, IdThere}
 use Rattle.members.specs.declared.Members.{Members}
 use Rattle.numbers.specs.Little.{number_at}

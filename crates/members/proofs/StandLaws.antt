@@ -7,7 +7,7 @@ use native.Mathlib.Nat.{mul-le-mul, mul-one}
 use native.Mathlib.Omega.{arith}
 use lib.ListN.{length, get_or, drop, length-append}
 use lib.Seq.{drop_at, drop-drop}
-use Rattle.dictionary.proofs.NumbersRunLaws.{number_drop, run_at}
+use Rattle.runs.proofs.NumbersRunLaws.{number_drop, run_at}
 use Rattle.dictionary.proofs.OffsetLaws.{cut_at_lem, good_next, good_within}
 use Rattle.forms.proofs.LaidLaws.{laid, laid_length, laid_count, laid_area}
 use Rattle.members.specs.Members.{start_at, member_part, member_id, MembersAt, PartThere, IdThere, Parted, Identified}

@@ -4,7 +4,7 @@
 #![tactic(auto)]
 
 ghost use Rattle.std.specs.Prelude.{◌≡◌};
-ghost use Rattle.containers.specs.Layouts.{Container};
+ghost use Rattle.containers.specs.Layouts.{HeadThere};
 ghost use Rattle.members.specs.Members.{MembersAt, PartThere, IdThere, member_part, member_id};
 
 use dictionary::NormalId;
@@ -23,17 +23,20 @@ pub struct Members {
 
 // Where the members of a container stand whose count, ids and starts take so many bytes each; an array has ids of no bytes.
 pub fn members_of(s: &[u8], counted: usize, id: usize, offset: usize) -> Members
-    requires { Container s.now counted id offset }
+    requires { HeadThere s.now counted id offset }
     ensures { MembersAt s.now counted id offset result }
 {
-    let l = containers::layout_of(s, counted, id, offset);
+    let count = numbers::read(s, 1, counted);
+    let ids = 1 + counted;
+    let starts = ids + count * id;
+    let area = heads::head_size(count, counted, id, offset);
     Members {
-        ids: 1 + counted,
+        ids,
         id,
-        starts: l.starts,
+        starts,
         offset,
-        area: l.area,
-        count: l.count,
+        area,
+        count,
     }
 }
 

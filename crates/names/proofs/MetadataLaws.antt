@@ -1,7 +1,7 @@
 -- Normal metadata: how long it is, and that it is read back as the names that it was written for.
+use Rattle.std.specs.Prelude.{Some}
 use mathlib.Core.Bool.{true, not, ◌&&◌, ◌||◌}
 use mathlib.Core.List.{List, ◌++◌}
-use mathlib.Core.Option.{some}
 use mathlib.Core.Path.{◌≡◌, refl, sym, ap, ◌∙◌}
 use Prim.Native.Nat.{ℕ, suc, ◌+◌, ◌*◌, ◌-◌, ◌/◌, ◌%◌, ◌^◌, ◌≤◌, ◌<◌, max}
 use native.Mathlib.Nat.{le-max_left, le-max_right, zero-add}
@@ -122,7 +122,7 @@ module _ (names : Dictionary) where
 
 -- It is read back, by a reader that finds the flag set and so asks that the names rise.
 pub metadata_back : (names : Dictionary) → rising names ≡ true → length names < 2 ^ 32 → length (joined names) < 2 ^ 32
-    → dictionary_of (metadata_bytes names) ≡ some names
+    → dictionary_of (metadata_bytes names) ≡ Some names
 unfolding dictionary_of
 metadata_back names rise few short =
     let m : List ℕ = metadata_bytes names in
@@ -135,4 +135,4 @@ metadata_back names rise few short =
     ∙ given_passed (framed m) _ (frame_there names few short)
     ∙ given_passed (offsets_good (name_offsets m) (names_area m)) _ good
     ∙ given_passed (not (flag_set (at m 0)) || rising (names_in m)) _ order
-    ∙ ap some back
+    ∙ ap Some back

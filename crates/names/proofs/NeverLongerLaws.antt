@@ -1,7 +1,7 @@
 -- Normal metadata is never longer than metadata that has all of its names.
+use Rattle.std.specs.Prelude.{Some, None}
 use mathlib.Core.Bool.{Bool, true, false}
 use mathlib.Core.List.{List, [], ◌∷◌, ◌++◌}
-use mathlib.Core.Option.{some}
 use mathlib.Core.Path.{◌≡◌, refl, sym, ap, ◌∙◌}
 use Prim.Native.Nat.{ℕ, ◌+◌, ◌*◌, ◌-◌, ◌^◌, ◌≤◌, ◌<◌, max}
 use native.Mathlib.Nat.{mul-le-mul}
@@ -17,7 +17,7 @@ use Rattle.paper.specs.Metadata.{Dictionary, offset_size, flag_set, rising, name
 use Rattle.paper.specs.Normal.{metadata_width, metadata_bytes}
 use Rattle.paper.specs.Words.{at, part, among, joined, last_of}
 use Rattle.dictionary.proofs.DictionaryLaws.{lawful, offsets_is, area_is, opened_names, opened_width, opened_there, offsets_length, opened_count}
-use Rattle.dictionary.proofs.NumbersRunLaws.{run_at, last_at, number_drop}
+use Rattle.runs.proofs.NumbersRunLaws.{run_at, last_at, number_drop}
 use Rattle.dictionary.proofs.OffsetLaws.{good_parts}
 use Rattle.names.proofs.ContainedLaws.{contained_count, contained_length}
 use Rattle.names.proofs.MetadataLaws.{metadata_length}
@@ -45,7 +45,7 @@ part_join s a b c lower upper =
 
 joined_part : (area : List ℕ) (a : ℕ) (ns : List ℕ) → never_fall (a ∷ ns) ≡ true → joined (cut_at area (a ∷ ns)) ≡ part area a (last_of (a ∷ ns))
 unfolding never_fall last_of joined cut_at
-joined_part area a [] fall = let none : a - a ≡ 0 = omega arith in rw none
+joined_part area a [] fall = let None : a - a ≡ 0 = omega arith in rw None
 joined_part area a (b ∷ ns) fall =
     let both = and_both (leb a b) (never_fall (b ∷ ns)) fall in
     rw (joined_part area b ns both.1) (part_join area a b (last_of (b ∷ ns)) (leb-true a b both.0) (fall_last b ns both.1))
@@ -75,12 +75,12 @@ number_at-below s p w bytes = number_below (take w (drop p s)) w (rw length-take
 abbrev head_of : List ℕ → Names
 head_of metadata = record { width = offset_size (at metadata 0); count = name_count metadata; sorted = flag_set (at metadata 0) }
 
-module _ (metadata : List ℕ) (names : Dictionary) (is : dictionary_of metadata ≡ some names) where
+module _ (metadata : List ℕ) (names : Dictionary) (is : dictionary_of metadata ≡ Some names) where
   opens : Opened metadata (head_of metadata)
   opens = record { there = some_there (dictionary_of metadata) is; width = refl; count = refl; sorted = refl }
 
   read_names : names_in metadata ≡ names
-  read_names = let read : some (names_in metadata) ≡ some names = sym (opened_names opens) ∙ is in cc
+  read_names = let read : Some (names_in metadata) ≡ Some names = sym (opened_names opens) ∙ is in cc
 
   pub read_count : name_count metadata ≡ length names
   read_count = sym (opened_count opens) ∙ ap length read_names

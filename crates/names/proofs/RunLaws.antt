@@ -13,7 +13,7 @@ use Rattle.numbers.specs.Little.{number_bytes, number_at}
 use Rattle.paper.specs.Metadata.{never_fall, cut_at, offsets_good}
 use Rattle.paper.specs.Normal.{offsets_from, numbers_bytes}
 use Rattle.paper.specs.Words.{part, numbers, last_of, all_below, joined}
-use Rattle.dictionary.proofs.NumbersRunLaws.{run_step, below_at}
+use Rattle.runs.proofs.NumbersRunLaws.{run_step, below_at}
 use Rattle.numbers.proofs.NumberLaws.{length-number_bytes, read_back}
 use Rattle.paper.proofs.WordLaws.{and_both}
 

@@ -2,10 +2,10 @@
 use mathlib.Core.List.{List, [], ◌∷◌, ◌++◌}
 use mathlib.Core.Path.{◌≡◌, refl, sym, ap, subst, ◌∙◌}
 use Prim.Native.Nat.{ℕ, ◌+◌, ◌*◌, ◌-◌, ◌≤◌, ◌<◌, max}
-use native.Mathlib.Nat.{max-eq_left, max-eq_right, mul-le-mul, zero-add}
+use native.Mathlib.Nat.{mul-le-mul, zero-add}
 use native.Mathlib.Omega.{arith}
 use lib.ListN.{length, set}
-use Rattle.dictionary.specs.declared.Names.{Names}
+use Rattle.dictionary.specs.Lent.{LentNames}
 use Rattle.naming.specs.Chosen.{chosen_names, Chosen}
 use Rattle.numbers.specs.Little.{number_bytes, put_at, smallest_width}
 use Rattle.paper.specs.Bounds.{most_names}
@@ -22,13 +22,6 @@ use Rattle.numbers.proofs.PutLaws.{put_one, length_put}
 -- The width of the larger of two numbers, one to four.
 abbrev pub Wide : (count total width : ℕ) → Type 0
 Wide count total width = (width ≡ smallest_width (max count total)) × (1 ≤ width) × (width ≤ 4)
-
-module _ (count total width : ℕ) where
-  pub total_wide : count ≤ total → (width ≡ smallest_width total) × (1 ≤ width) × (width ≤ 4) → Wide count total width
-  total_wide h w = (rw (max-eq_right h) w.0, w.1, w.2)
-
-  pub count_wide : total < count → (width ≡ smallest_width count) × (1 ≤ width) × (width ≤ 4) → Wide count total width
-  count_wide h w = let l : total ≤ count = omega arith in (rw (max-eq_left l) w.0, w.1, w.2)
 
 -- So many offsets of a width.
 pub offsets_size : (normal : Dictionary) (count width : ℕ) → length normal ≡ count
@@ -63,11 +56,11 @@ pub record Fitting (normal : Dictionary) (count total width : ℕ) (before : Lis
   pub wide : Wide count total width
   pub room : length (metadata_bytes normal) ≤ length before
 
-pub fitting : {metadata chosen : List ℕ} {names : Names} {count total width : ℕ} (before : List ℕ)
-    → Chosen metadata names chosen count × (length (metadata_bytes (chosen_names metadata chosen count)) ≤ length before)
-    → total ≡ length (joined (chosen_names metadata chosen count)) → Wide count total width
-    → Fitting (chosen_names metadata chosen count) count total width before
-fitting before pre sum wide = record { counted = names_length pre.0; sum = sum; wide = wide; room = pre.1 }
+pub fitting : {d : LentNames} {chosen : List ℕ} {total width : ℕ} (before : List ℕ)
+    → Chosen d chosen × (length (metadata_bytes (chosen_names d.names chosen)) ≤ length before)
+    → total ≡ length (joined (chosen_names d.names chosen)) → Wide (length chosen) total width
+    → Fitting (chosen_names d.names chosen) (length chosen) total width before
+fitting {d} {chosen} before pre sum wide = record { counted = names_length d.names chosen; sum = sum; wide = wide; room = pre.1 }
 
 -- What is left behind each part.
 module _ {normal : Dictionary} {count total width : ℕ} {before : List ℕ} (f : Fitting normal count total width before) where

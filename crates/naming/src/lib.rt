@@ -1,35 +1,31 @@
-// Normal metadata written: the names of chosen ids of lent metadata, in the order in which the ids are listed.
+// Normal metadata written: the names of chosen ids of a lent dictionary, in the order in which the ids are listed.
 #![tactic(auto)]
 
 ghost use Rattle.std.specs.Prelude.{[], ◌≡◌, ◌+◌, ◌*◌, ◌≤◌, ◌<◌, max, length, get_or};
 ghost use Rattle.numbers.specs.Little.{put_at, smallest_width};
-ghost use Rattle.dictionary.specs.Judging.{Opened};
-ghost use Rattle.paper.specs.Metadata.{names_in};
 ghost use Rattle.paper.specs.Words.{joined};
 ghost use Rattle.paper.specs.Normal.{offsets_from, numbers_bytes, metadata_bytes};
 ghost use Rattle.naming.specs.Chosen.{chosen_names, Chosen};
 
-use dictionary::{Names, NormalId};
+use dictionary::{Dictionary, NormalId};
 use ranking::input_of;
 
 // The name of a normal id: that of the input's id that was chosen for it.
-fn name_of<'a>(metadata: &'a [u8], names: Names, chosen: &[u16], id: NormalId) -> &'a [u8]
-    requires { Opened metadata.now names × (id.0 < length chosen.now) × (get_or chosen.now id.0 0 < names.count) }
-    ensures { result.now ≡ get_or (names_in metadata.now) (get_or chosen.now id.0 0) [] }
+fn name_of<'a>(dictionary: &Dictionary<'a>, chosen: &[u16], id: NormalId) -> &'a [u8]
+    requires { (id.0 < length chosen.now) × (get_or chosen.now id.0 0 < length dictionary.now.names) }
+    ensures { result.now ≡ get_or dictionary.now.names (get_or chosen.now id.0 0) [] }
 {
-    dictionary::name(metadata, names, input_of(chosen, id))
+    dictionary.name(input_of(chosen, id))
 }
 
 // How long the names are together.
-fn total_of(metadata: &[u8], names: Names, chosen: &[u16], count: usize) -> usize
-    requires { Chosen metadata.now names chosen.now count }
-    ensures { result ≡ length (joined (chosen_names metadata.now chosen.now count)) }
+fn total_of(dictionary: &Dictionary, chosen: &[u16]) -> usize
+    requires { Chosen dictionary.now chosen.now }
+    ensures { result ≡ length (joined (chosen_names dictionary.now.names chosen.now)) }
 {
     let mut total = 0;
-    let mut i = 0;
-    while i < count {
-        total += name_of(metadata, names, chosen, NormalId(i)).len();
-        i += 1;
+    for i in 0..chosen.len() {
+        total += name_of(dictionary, chosen, NormalId(i)).len();
     }
     total
 }
@@ -38,80 +34,66 @@ fn total_of(metadata: &[u8], names: Names, chosen: &[u16], count: usize) -> usiz
 fn offset_size(count: usize, total: usize) -> usize
     ensures { (result ≡ smallest_width (max count total)) × (1 ≤ result) × (result ≤ 4) }
 {
-    if count <= total {
-        return numbers::width_of(total);
-    }
-    numbers::width_of(count)
+    numbers::width_of(count.max(total))
 }
 
 // How long the normal metadata of the names is.
-pub fn size(metadata: &[u8], names: Names, chosen: &[u16], count: usize) -> usize
-    requires { Chosen metadata.now names chosen.now count }
-    ensures { result ≡ length (metadata_bytes (chosen_names metadata.now chosen.now count)) }
+pub fn size(dictionary: &Dictionary, chosen: &[u16]) -> usize
+    requires { Chosen dictionary.now chosen.now }
+    ensures { result ≡ length (metadata_bytes (chosen_names dictionary.now.names chosen.now)) }
 {
-    let total = total_of(metadata, names, chosen, count);
+    let count = chosen.len();
+    let total = total_of(dictionary, chosen);
     let width = offset_size(count, total);
     1 + width + (count + 1) * width + total
 }
 
 // Writes the offsets from a place on: where each name starts, and where the last one ends.
 fn write_offsets(
-    metadata: &[u8],
-    names: Names,
+    dictionary: &Dictionary,
     chosen: &[u16],
-    count: usize,
     out: &mut [u8],
     place: usize,
     width: usize,
 )
-    requires { Chosen metadata.now names chosen.now count × (1 ≤ width) × (width ≤ 4) × (place + (count + 1) * width ≤ length out.old) }
-    ensures { out.new ≡ put_at out.old place (numbers_bytes width (offsets_from 0 (chosen_names metadata.now chosen.now count))) }
+    requires { Chosen dictionary.now chosen.now × (1 ≤ width) × (width ≤ 4) × (place + (length chosen.now + 1) * width ≤ length out.old) }
+    ensures { out.new ≡ put_at out.old place (numbers_bytes width (offsets_from 0 (chosen_names dictionary.now.names chosen.now))) }
 {
     let mut at = place;
     let mut total = 0;
-    let mut i = 0;
-    while i < count {
+    for i in 0..chosen.len() {
         numbers::write(out, at, width, total);
-        total += name_of(metadata, names, chosen, NormalId(i)).len();
+        total += name_of(dictionary, chosen, NormalId(i)).len();
         at += width;
-        i += 1;
     }
     numbers::write(out, at, width, total);
 }
 
 // Writes the names from a place on, one behind the other.
-fn write_names(
-    metadata: &[u8],
-    names: Names,
-    chosen: &[u16],
-    count: usize,
-    out: &mut [u8],
-    place: usize,
-)
-    requires { Chosen metadata.now names chosen.now count × (place + length (joined (chosen_names metadata.now chosen.now count)) ≤ length out.old) }
-    ensures { out.new ≡ put_at out.old place (joined (chosen_names metadata.now chosen.now count)) }
+fn write_names(dictionary: &Dictionary, chosen: &[u16], out: &mut [u8], place: usize)
+    requires { Chosen dictionary.now chosen.now × (place + length (joined (chosen_names dictionary.now.names chosen.now)) ≤ length out.old) }
+    ensures { out.new ≡ put_at out.old place (joined (chosen_names dictionary.now.names chosen.now)) }
 {
     let mut at = place;
-    let mut i = 0;
-    while i < count {
-        let name = name_of(metadata, names, chosen, NormalId(i));
+    for i in 0..chosen.len() {
+        let name = name_of(dictionary, chosen, NormalId(i));
         numbers::put(out, at, name);
         at += name.len();
-        i += 1;
     }
 }
 
 // Writes the normal metadata of the names: the header with the flag set, the count, the offsets, the names.
-pub fn write(metadata: &[u8], names: Names, chosen: &[u16], count: usize, out: &mut [u8])
-    requires { Chosen metadata.now names chosen.now count × (length (metadata_bytes (chosen_names metadata.now chosen.now count)) ≤ length out.old) }
-    ensures { out.new ≡ put_at out.old 0 (metadata_bytes (chosen_names metadata.now chosen.now count)) }
+pub fn write(dictionary: &Dictionary, chosen: &[u16], out: &mut [u8])
+    requires { Chosen dictionary.now chosen.now × (length (metadata_bytes (chosen_names dictionary.now.names chosen.now)) ≤ length out.old) }
+    ensures { out.new ≡ put_at out.old 0 (metadata_bytes (chosen_names dictionary.now.names chosen.now)) }
 {
-    let total = total_of(metadata, names, chosen, count);
+    let count = chosen.len();
+    let total = total_of(dictionary, chosen);
     let width = offset_size(count, total);
     let offsets = 1 + width;
     let start = offsets + (count + 1) * width;
     out[0] = (17 + 64 * (width - 1)) as u8;
     numbers::write(out, 1, width, count);
-    write_offsets(metadata, names, chosen, count, out, offsets, width);
-    write_names(metadata, names, chosen, count, out, start);
+    write_offsets(dictionary, chosen, out, offsets, width);
+    write_names(dictionary, chosen, out, start);
 }

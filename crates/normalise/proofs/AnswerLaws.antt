@@ -1,6 +1,9 @@
 -- What is answered of a document to be written, test by test: 8, a 9 for either buffer, or done.
+use Rattle.paper.specs.declared.Unwritten.TheVariants.{Refused, Short}
+use Rattle.std.specs.Prelude.{Err, Ok}
 use mathlib.Core.Bool.{true, false, and-false}
 use mathlib.Core.List.{List, []}
+use mathlib.Core.Logic.{◌⊎◌, inl, inr}
 use mathlib.Core.Path.{◌≡◌, refl, sym, ap, ◌∙◌}
 use Prim.Native.Nat.{ℕ, ◌≤◌, ◌<◌}
 use borrow.Author.Tests.{le-leb, lt-leb}
@@ -12,9 +15,9 @@ use Rattle.paper.specs.Limits.{most_value}
 use Rattle.paper.specs.Meaning.{Doc}
 use Rattle.paper.specs.Metadata.{Dictionary}
 use Rattle.paper.specs.Normal.{names_used, metadata_bytes, normal_form}
-use Rattle.paper.specs.Operations.{written, document_room, document_answer, metadata_written, value_written, writable}
-use Rattle.paper.specs.Refusals.{refused, reached, require}
-use Rattle.paper.specs.declared.DocumentAnswer.TheVariants.{Done, Short, Refused}
+use Rattle.paper.specs.Operations.{written, lengths_of, document_room, document_answer, metadata_written, value_written, writable}
+use Rattle.paper.specs.Refusals.{require}
+use Rattle.paper.specs.declared.DocumentLengths.{DocumentLengths}
 use Rattle.paper.specs.declared.Refusal.TheVariants.{TooLarge}
 use Rattle.numbers.proofs.PutLaws.{put_none}
 
@@ -22,70 +25,82 @@ use Rattle.numbers.proofs.PutLaws.{put_none}
 kept : (l : List ℕ) (new : List ℕ) → new ≡ [] → l ≡ put_at l 0 new
 kept l new e = sym (ap (put_at l 0) e ∙ put_none l 0)
 
-module _ (d : Doc) (value : List ℕ) (is : value ≡ (normal_form d).value) (first second : List ℕ) where
-  large : most_value < length value → written d ≡ refused TooLarge
-  unfolding written writable require
+-- The document's own lengths, and then those that the code has.
+module _ (d : Doc) (first second : List ℕ) where
+  large : most_value < length (normal_form d).value → Answered (written d) first first second second (Err (Refused TooLarge))
+  unfolding written writable require document_answer metadata_written value_written
   large h =
-      let long : most_value < length (normal_form d).value = rw (← is) h in
-      rw (lt-leb (length (normal_form d).value) most_value long)
+      rw (lt-leb (length (normal_form d).value) most_value h)
+      (record { answer_is = refl; metadata_is = kept first [] refl; value_is = kept second [] refl })
 
-  pub answer_large : most_value < length value → Answered (written d) first first second second (Refused TooLarge)
-  unfolding document_answer metadata_written value_written
-  answer_large h = rw (large h) (record { answer_is = refl; metadata_is = kept first [] refl; value_is = kept second [] refl })
-
-  -- the names are those used, and the size is that of their metadata
-  module _ (fits : length value ≤ most_value) (names : Dictionary) (used : names ≡ names_used d) (size : ℕ) (told : size ≡ length (metadata_bytes names)) where
-    metadata_is-normal : metadata_bytes names ≡ (normal_form d).metadata
-    unfolding normal_form
-    metadata_is-normal = ap metadata_bytes used
-
-    size_is : size ≡ length (normal_form d).metadata
-    size_is = told ∙ ap length metadata_is-normal
-
-    fitting : written d ≡ reached (normal_form d)
+  module _ (fits : length (normal_form d).value ≤ most_value) where
+    fitting : written d ≡ Ok (normal_form d)
     unfolding written writable require
-    fitting =
-        let short : length (normal_form d).value ≤ most_value = rw (← is) fits in
-        rw (le-leb (length (normal_form d).value) most_value short)
+    fitting = rw (le-leb (length (normal_form d).value) most_value fits)
 
     no_room : document_room (normal_form d) (length first) (length second) ≡ false
-        → Answered (written d) first first second second (Short size (length value))
+        → Answered (written d) first first second second (Err (Short (lengths_of (normal_form d))))
     unfolding document_answer metadata_written value_written
     no_room e =
         rw (fitting)
         (record {
-          answer_is = rw (e, size_is, is);
+          answer_is = rw e;
           metadata_is = kept first _ (rw e refl);
           value_is = kept second _ (rw e refl);
         })
 
-    pub answer-metadata_short : length first < size → Answered (written d) first first second second (Short size (length value))
+    short : (length first < length (normal_form d).metadata) ⊎ ((length (normal_form d).metadata ≤ length first) × (length second < length (normal_form d).value))
+        → Answered (written d) first first second second (Err (Short (lengths_of (normal_form d))))
     unfolding document_room
-    answer-metadata_short h =
-        let short : length first < length (normal_form d).metadata = rw (← size_is) h in
-        no_room (rw (lt-leb (length (normal_form d).metadata) (length first) short))
+    short (inl h) = no_room (rw (lt-leb (length (normal_form d).metadata) (length first) h))
+    short (inr h) = no_room (rw (lt-leb (length (normal_form d).value) (length second) h.1) (and-false (leb (length (normal_form d).metadata) (length first))))
 
-    pub answer-value_short : length second < length value → Answered (written d) first first second second (Short size (length value))
-    unfolding document_room
-    answer-value_short h =
-        let short : length second < length (normal_form d).value = rw (← is) h in
-        no_room (rw (lt-leb (length (normal_form d).value) (length second) short) (and-false (leb (length (normal_form d).metadata) (length first))))
+    done : length (normal_form d).metadata ≤ length first → length (normal_form d).value ≤ length second → {first' second' : List ℕ}
+        → first' ≡ put_at first 0 (normal_form d).metadata → second' ≡ put_at second 0 (normal_form d).value
+        → Answered (written d) first first' second second' (Ok (lengths_of (normal_form d)))
+    unfolding document_answer metadata_written value_written document_room
+    done h k put put' =
+        let room : document_room (normal_form d) (length first) (length second) ≡ true = rw (le-leb (length (normal_form d).metadata) (length first) h, le-leb (length (normal_form d).value) (length second) k) in
+        rw (fitting) (record { answer_is = rw room; metadata_is = put ∙ rw room; value_is = put' ∙ rw room })
 
-    has_room : size ≤ length first → length value ≤ length second → document_room (normal_form d) (length first) (length second) ≡ true
-    unfolding document_room
-    has_room h k =
-        let one : length (normal_form d).metadata ≤ length first = rw (← size_is) h in
-        let two : length (normal_form d).value ≤ length second = rw (← is) k in
-        rw (le-leb (length (normal_form d).metadata) (length first) one, le-leb (length (normal_form d).value) (length second) two)
+  module _ (needed : DocumentLengths) (same : lengths_of (normal_form d) ≡ needed) where
+    metadata_same : length (normal_form d).metadata ≡ needed.metadata
+    metadata_same = ap (λ (n : DocumentLengths). n.metadata) same
 
-    pub answer_done : size ≤ length first → length value ≤ length second → (first' second' : List ℕ)
-        → first' ≡ put_at first 0 (metadata_bytes names) → second' ≡ put_at second 0 value
-        → Answered (written d) first first' second second' (Done size (length value))
-    unfolding document_answer metadata_written value_written
-    answer_done h k first' second' put put' =
-        rw (fitting)
-        (record {
-          answer_is = rw (has_room h k, size_is, is);
-          metadata_is = put ∙ rw (metadata_is-normal, has_room h k);
-          value_is = put' ∙ rw (has_room h k, is);
-        })
+    value_same : length (normal_form d).value ≡ needed.value
+    value_same = ap (λ (n : DocumentLengths). n.value) same
+
+    pub needed_large : most_value < needed.value → Answered (written d) first first second second (Err (Refused TooLarge))
+    needed_large h = large (rw value_same h)
+
+    pub needed_short : needed.value ≤ most_value → (length first < needed.metadata) ⊎ ((needed.metadata ≤ length first) × (length second < needed.value))
+        → Answered (written d) first first second second (Err (Short needed))
+    needed_short fits either = rw (← same) (short (rw value_same fits) (rw (metadata_same, value_same) either))
+
+    pub needed_done : needed.value ≤ most_value → needed.metadata ≤ length first → needed.value ≤ length second → {first' second' : List ℕ}
+        → first' ≡ put_at first 0 (normal_form d).metadata → second' ≡ put_at second 0 (normal_form d).value
+        → Answered (written d) first first' second second' (Ok needed)
+    needed_done fits h k put put' = rw (← same) (done (rw value_same fits) (rw metadata_same h) (rw value_same k) put put')
+
+pub answer_large : (d : Doc) (value : List ℕ) → value ≡ (normal_form d).value → (first second : List ℕ) → most_value < length value
+    → Answered (written d) first first second second (Err (Refused TooLarge))
+answer_large d value is first second h = large d first second (rw (← is) h)
+
+-- What is handed out has the document's lengths, and is the document.
+module _ (d : Doc) (names : Dictionary) (used : names ≡ names_used d) (value : List ℕ) (is : value ≡ (normal_form d).value)
+    (needed : DocumentLengths) (size : needed.metadata ≡ length (metadata_bytes names)) (long : needed.value ≡ length value) where
+  metadata_is-normal : metadata_bytes names ≡ (normal_form d).metadata
+  unfolding normal_form
+  metadata_is-normal = ap metadata_bytes used
+
+  pub lengths_same : lengths_of (normal_form d) ≡ needed
+  lengths_same =
+      let first : length (normal_form d).metadata ≡ needed.metadata = rw (size, metadata_is-normal) in
+      let second : length (normal_form d).value ≡ needed.value = rw (long, is) in
+      rw (first, second)
+
+  pub handed_done : {first first' second second' : List ℕ} → (needed.value ≤ most_value) × (needed.metadata ≤ length first) × (needed.value ≤ length second)
+      → first' ≡ put_at first 0 (metadata_bytes names) → second' ≡ put_at second 0 value
+      → Answered (written d) first first' second second' (Ok needed)
+  handed_done {first} {first'} {second} {second'} room put put' =
+      needed_done d first second needed lengths_same room.0 room.1 room.2 (put ∙ ap (put_at first 0) metadata_is-normal) (put' ∙ ap (put_at second 0) is)

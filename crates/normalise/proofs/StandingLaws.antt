@@ -1,14 +1,15 @@
 -- A scalar that is its own normal form: by its first byte, and that it is handed out as it stands, without names.
+use Rattle.paper.specs.Refusals.{DocumentAnswer}
+use Rattle.std.specs.Prelude.{Some}
 use mathlib.Core.Bool.{Bool, true, false, cond, ◌&&◌, and-false}
 use mathlib.Core.List.{List, []}
-use mathlib.Core.Option.{some}
 use mathlib.Core.Path.{◌≡◌, refl, sym, ap, ◌∙◌}
 use Prim.Native.Nat.{ℕ, ◌-◌, ◌/◌, ◌%◌, ◌≤◌, ◌<◌}
 use native.Mathlib.Omega.{arith}
 use borrow.Author.Tests.{le-leb, lt-leb, ne_eqb, ltb-true}
 use lib.Dec.{leb, ltb, eqb}
 use lib.ListN.{length, get_or}
-use Rattle.dictionary.specs.declared.Names.{Names}
+use Rattle.dictionary.specs.Lent.{LentNames}
 use Rattle.marking.proofs.UsedIdLaws.{ids_used}
 use Rattle.marking.specs.Ids.{ids_by, ids_in, holds}
 use Rattle.names.proofs.UsedLaws.{names_are}
@@ -19,12 +20,11 @@ use Rattle.paper.proofs.WordLaws.{never}
 use Rattle.paper.specs.FirstBytes.{length_prefixed, payload_sizes, primitive_reading, kind_reading, reading_of}
 use Rattle.paper.specs.Limits.{most_levels}
 use Rattle.paper.specs.Meaning.{Doc}
-use Rattle.paper.specs.Metadata.{rising, names_in}
+use Rattle.paper.specs.Metadata.{rising}
 use Rattle.paper.specs.Normal.{names_used, normal_form}
 use Rattle.paper.specs.Operations.{written}
 use Rattle.paper.specs.Values.{meaning_of, names_at}
 use Rattle.paper.specs.Words.{at, among, all_below, joined}
-use Rattle.paper.specs.declared.DocumentAnswer.{DocumentAnswer}
 use Rattle.paper.specs.declared.Reading.TheVariants.{Fixed, Prefixed, Short}
 use Rattle.paper.specs.declared.Reading.{Reading}
 use Rattle.writing.proofs.MeaningLaws.{rewritten_is}
@@ -64,29 +64,21 @@ module _ (s : List ℕ) where
 
 -- ---- it is handed out without names
 
-pub no_choice : {m : List ℕ} {names : Names} {v : List ℕ} → Lent m names v → (chosen : List ℕ) → Chosen m names chosen 0
+pub no_choice : {dictionary : LentNames} {v : List ℕ} → Lent dictionary v → Chosen dictionary []
 unfolding all_below joined names_at
-no_choice lent chosen =
-    record {
-      opened = lent.opened;
-      listed = omega arith;
-      few = omega arith;
-      known = refl;
-      small = lent.metadata_short;
-      short = omega arith;
-    }
+no_choice lent = record { few = omega arith; known = refl; small = lent.metadata_short; short = omega arith }
 
-pub stands_answers : {m : List ℕ} {names : Names} {v : List ℕ} → Lent m names v → ((i : ℕ) → get_or v i 0 < 256) → (b : Bool) → (b ≡ true → Standing v) → b ≡ true
+pub stands_answers : {dictionary : LentNames} {v : List ℕ} → Lent dictionary v → ((i : ℕ) → get_or v i 0 < 256) → (b : Bool) → (b ≡ true → Standing v) → b ≡ true
     → {first first' second second' : List ℕ} {a : DocumentAnswer}
-    → ((d : Doc) → chosen_names m [] 0 ≡ names_used d → v ≡ (normal_form d).value → Answered (written d) first first' second second' a)
-    → (d : Doc) → meaning_of most_levels (names_in m) v ≡ some d → Answered (written d) first first' second second' a
+    → ((d : Doc) → chosen_names dictionary.names [] ≡ names_used d → v ≡ (normal_form d).value → Answered (written d) first first' second second' a)
+    → (d : Doc) → meaning_of most_levels dictionary.names v ≡ Some d → Answered (written d) first first' second second' a
 unfolding normal_form names_at holds rising
-stands_answers {m} {names} {v} lent bytes b told e answers d means =
+stands_answers {dictionary} {v} lent bytes b told e answers d means =
     let standing = told e in
     let short = lent.value_short in
     let exact : (name : List ℕ) → among name [] ≡ used_in name d =
-    λ name. ap (λ (ids : List ℕ). among name (names_at (names_in m) ids)) (sym standing.none_used) ∙ ids_used most_levels (names_in m) v d means name in
-    let right : Right (names_in m) (names_used d) [] (ids_in most_levels v) =
+    λ name. ap (λ (ids : List ℕ). among name (names_at dictionary.names ids)) (sym standing.none_used) ∙ ids_used most_levels dictionary.names v d means name in
+    let right : Right dictionary.names (names_used d) [] (ids_in most_levels v) =
     λ id held. never (sym (sym (ap (holds id) standing.none_used) ∙ held)) in
-    let own = sym (standing.same []) ∙ rewritten_is most_levels (names_in m) (names_used d) [] v d means bytes (omega arith) right in
+    let own = sym (standing.same []) ∙ rewritten_is most_levels dictionary.names (names_used d) [] v d means bytes (omega arith) right in
     answers d (names_are d [] refl exact) own

@@ -1,15 +1,14 @@
 -- A list's places noted: those in front of a place stand in the table, and those from it on are left.
+use Rattle.std.specs.Prelude.{Some, None, Option}
 use mathlib.Core.List.{List, [], ◌∷◌, ◌++◌, append-nil, append_assoc}
 use mathlib.Core.Path.{◌≡◌, refl, sym, ap, ◌∙◌}
 use Prim.Native.Nat.{ℕ, ◌+◌, ◌-◌, ◌≤◌, ◌<◌}
 use native.Mathlib.Omega.{arith}
 use lib.ListN.{length, get_or, set, drop, length-append, length-set, length-take, length-drop}
 use lib.Seq.{get_or-set_same, get_or-set_other}
-use Rattle.frames.specs.declared.Frame.TheVariants.{Ends, Cut}
-use Rattle.frames.specs.declared.Frame.{Frame}
 use Rattle.paper.specs.Framing.{Piece}
 use Rattle.paper.specs.Words.{part}
-use Rattle.places.specs.Frames.{place_frame}
+use Rattle.places.specs.Frames.{place_end}
 use Rattle.rebuilt.proofs.InnerLaws.{pieces_none, element_whole, element_fits, elements_behind, element_pieces}
 use Rattle.rebuilt.specs.Rebuilt.{pieces_in}
 use Rattle.noting.proofs.FrontLaws.{one_further}
@@ -58,14 +57,14 @@ module _ {body places₀ places : List ℕ} {n place : ℕ} (seen : ElementsSeen
       seen.whole_is ∙ ap (λ (l : List Piece). seen.past ++ piece_places place l) (pieces_none body place over) ∙ append-nil seen.past in
       rw all seen.spotted
 
-  module _ (h : place < length body) {r : Frame} (told : r ≡ place_frame body place) where
-    pub elements_whole : r ≡ Cut → ⊥
+  module _ (h : place < length body) {r : Option ℕ} (told : r ≡ place_end body place) where
+    pub elements_whole : r ≡ None → ⊥
     elements_whole e = element_whole body place seen.left.there h told e
 
     pub spot_room : length body ≤ length places₀ → n < length places
     spot_room room = omega (arith, seen.few, seen.same_size)
 
-    module _ {end : ℕ} (e : r ≡ Ends end) where
+    module _ {end : ℕ} (e : r ≡ Some end) where
       fits : (place + 3 < end) × (end ≤ length body)
       fits = element_fits body place seen.left.there h told e
 

@@ -1,4 +1,5 @@
 -- An object's members noted: what is left of its places and of its leftover's members is merged behind what stands there.
+use Rattle.std.specs.Prelude.{Some, None, Option}
 use mathlib.Core.List.{List, [], ◌∷◌, ◌++◌, append_assoc}
 use mathlib.Core.Path.{◌≡◌, refl, sym, ap, ◌∙◌}
 use Prim.Native.Nat.{ℕ, ◌+◌, ◌-◌, ◌*◌, ◌^◌, ◌≤◌, ◌<◌}
@@ -8,14 +9,10 @@ use mir.Syntax.{w64}
 use mir.Val.{Fits}
 use Rattle.dictionary.specs.declared.ids.InputId.{InputId}
 use Rattle.fields.specs.Telling.{entry_place, looked_at}
-use Rattle.frames.specs.declared.Frame.TheVariants.{Ends, Cut}
-use Rattle.frames.specs.declared.Frame.{Frame}
-use Rattle.lookup.specs.declared.Looked.TheVariants.{At, Nowhere}
-use Rattle.lookup.specs.declared.Looked.{Looked}
 use Rattle.paper.specs.Bounds.{most_walked}
 use Rattle.paper.specs.Schemas.{SchemaFields, named}
-use Rattle.paper.specs.Words.{part, numbers}
-use Rattle.places.specs.Frames.{place_frame}
+use Rattle.paper.specs.Words.{part}
+use Rattle.places.specs.Frames.{place_end}
 use Rattle.rebuilt.specs.Rebuilt.{pieces_in}
 use Rattle.schemas.specs.Frames.{frame_end}
 use Rattle.schemas.specs.Positions.{FieldsStand}
@@ -30,12 +27,12 @@ use Rattle.noting.specs.Notes.{Note, note_rank, add_note, field_notes, Noted, me
 
 -- ---- a field's note
 
-add_none : (s : List ℕ) → length s ≡ 0 → (looked : Looked) (place field : ℕ) (notes : List Note) → add_note s looked place field notes ≡ notes
+add_none : (s : List ℕ) → length s ≡ 0 → (looked : Option InputId) (place field : ℕ) (notes : List Note) → add_note s looked place field notes ≡ notes
 unfolding add_note
 add_none [] e looked place field notes = refl
 add_none (b ∷ bs) e looked place field notes = absurd (omega arith)
 
-add_some : (s : List ℕ) → 0 < length s → {looked : Looked} {id : InputId} → looked ≡ At id → (place field : ℕ) (notes : List Note)
+add_some : (s : List ℕ) → 0 < length s → {looked : Option InputId} {id : InputId} → looked ≡ Some id → (place field : ℕ) (notes : List Note)
     → add_note s looked place field notes ≡ record { id = id.0; place = place; field = field } ∷ notes
 unfolding add_note
 add_some [] h is place field notes = absurd (omega arith)
@@ -74,9 +71,8 @@ members_start ranks schema table from to left_ids lefts count body places ids al
     }
 
 -- Whose normal ids are asked for, they are there.
-pub run_ranked : {ranks schema table : List ℕ} {from to : ℕ} {lefts : List ℕ} {id count : ℕ} {body : List ℕ}
-    → SomeMembers ranks schema table from to (numbers id count lefts) body → RunRanked ranks lefts id count
-run_ranked {ranks} {id = id} {count} {body} all =
+pub run_ranked : {ranks schema table : List ℕ} {from to : ℕ} {lefts body : List ℕ} → SomeMembers ranks schema table from to lefts body → RunRanked ranks lefts
+run_ranked all =
     record {
       inside = below_more _ _ _ all.ranked all.known;
       low = below_more _ _ _ (omega (arith, all.few)) all.known;
@@ -122,13 +118,13 @@ module _ {ranks schema table : List ℕ} {from to : ℕ} {left_ids : List ℕ} {
     pub field_entry : entry_place field < length table
     field_entry = member_entry body place seen.still.there some_left
 
-    pub place_whole : {r : Frame} → r ≡ place_frame body place → r ≡ Cut → ⊥
+    pub place_whole : {r : Option ℕ} → r ≡ place_end body place → r ≡ None → ⊥
     place_whole told e = member_whole body place seen.still.there some_left told e
 
-    pub field_known : {r : Frame} → r ≡ place_frame body place → {end : ℕ} → r ≡ Ends end → place + 3 < end → {looked : Looked} → looked ≡ looked_at table field → looked ≡ Nowhere → ⊥
+    pub field_known : {r : Option ℕ} → r ≡ place_end body place → {end : ℕ} → r ≡ Some end → place + 3 < end → {looked : Option InputId} → looked ≡ looked_at table field → looked ≡ None → ⊥
     field_known told e present is nowhere = member_known body place seen.still.there some_left told e present is nowhere
 
-  module _ (some_left : field < to) {r : Frame} (told : r ≡ place_frame body place) {end : ℕ} (e : r ≡ Ends end) where
+  module _ (some_left : field < to) {r : Option ℕ} (told : r ≡ place_end body place) {end : ℕ} (e : r ≡ Some end) where
     fits : (place + 3 ≤ end) × (end ≤ length body)
     fits = member_fits body place seen.still.there some_left told e
 
@@ -145,7 +141,7 @@ module _ {ranks schema table : List ℕ} {from to : ℕ} {left_ids : List ℕ} {
             ids_room = omega (arith, added.ids_size, seen.few, fits.1, seen.left_in);
           }
 
-      pub found_there : {looked : Looked} → looked ≡ looked_at table field → {found : InputId} → looked ≡ At found → (found.0 < length ranks) × (found.0 < most_walked)
+      pub found_there : {looked : Option InputId} → looked ≡ looked_at table field → {found : InputId} → looked ≡ Some found → (found.0 < length ranks) × (found.0 < most_walked)
       found_there is {found} at =
           let known = member_named body place seen.still.there some_left told e present in
           let same : found ≡ known.id = (let looked_is = known.looked_is in cc) in
@@ -204,7 +200,7 @@ module _ {ranks schema table : List ℕ} {from to : ℕ} {left_ids : List ℕ} {
                 ∙ ap (λ (l : List Note). seen.past ++ member_notes ranks l (drop left lefts)) (fields_next stand ∙ add_none (part body (place + 3) end) size (looked_at table field) place field (typed stand)));
           }
 
-      module _ (present : place + 3 < end) {looked : Looked} (is : looked ≡ looked_at table field) {found : InputId} (at : looked ≡ At found)
+      module _ (present : place + 3 < end) {looked : Option InputId} (is : looked ≡ looked_at table field) {found : InputId} (at : looked ≡ Some found)
           {places-after ids-after : List ℕ} {next : ℕ} (one : FieldAdded ranks lefts (record { id = found.0; place = place; field = field }) left count places ids n places-after ids-after next) where
         abbrev member : Note
         member = record { id = found.0; place = place; field = field }

@@ -11,7 +11,7 @@ use lib.ListN.{length, get_or, get_or-append, take, drop, length-append, length-
 use lib.Seq.{take-append-le, drop-append-le, length-take-le, take_at, drop_at, get_or_at}
 use Rattle.numbers.specs.Little.{number, number_at, put_at}
 use Rattle.paper.specs.Words.{numbers}
-use Rattle.dictionary.proofs.NumbersRunLaws.{run_step, number_drop}
+use Rattle.runs.proofs.NumbersRunLaws.{run_step, number_drop}
 use Rattle.numbers.proofs.PutLaws.{length_put}
 
 -- What stands behind does not count.

@@ -3,9 +3,9 @@ use Rattle.std.specs.Prelude.{true, cond, List, [], ◌∷◌, ◌++◌, ◌≡�
 use Rattle.paper.specs.Bounds.{most_names, most_walked}
 use Rattle.paper.specs.Limits.{most_row}
 use Rattle.paper.specs.Metadata.{Dictionary}
-use Rattle.paper.specs.Words.{numbers, all_below}
+use Rattle.paper.specs.Words.{all_below}
 use Rattle.rebuilt.specs.There.{ElementsThere, MembersThere}
-use Rattle.noting.specs.Notes.{Note, note_rank, left_notes, Noted}
+use Rattle.noting.specs.Notes.{Note, note_rank, Noted}
 
 -- ---- what is walked
 
@@ -27,23 +27,15 @@ pub record SomeMembers (ranks schema table : List ℕ) (from to : ℕ) (left_ids
   pub ranked : length names ≤ length ranks
   pub known : all_below (length names) left_ids ≡ true
 
--- A leftover's members: their ids one after another, and where each starts.
-pub record LeftRun (left_ids : List ℕ) (id : ℕ) (starts : List ℕ) (width count : ℕ) : Type 0 where
-  pub ids_in : count * id ≤ length left_ids
-  pub id_least : 1 ≤ id
-  pub id_most : id ≤ 4
-  pub starts_in : count * width ≤ length starts
-  pub width_least : 1 ≤ width
-  pub width_most : width ≤ 4
-  pub starts_low : all_below most_row (numbers width count starts) ≡ true
+-- A leftover's members: their ids, and where each starts.
+pub record LeftRun (left_ids starts : List ℕ) : Type 0 where
+  pub as_many : length starts ≡ length left_ids
+  pub starts_low : all_below most_row starts ≡ true
 
 -- Its ids are in a table, and two bytes hold each.
-pub record RunRanked (ranks left_ids : List ℕ) (id count : ℕ) : Type 0 where
-  pub inside : all_below (length ranks) (numbers id count left_ids) ≡ true
-  pub low : all_below most_walked (numbers id count left_ids) ≡ true
-
-abbrev pub run_notes : (left_ids : List ℕ) → (id : ℕ) → (starts : List ℕ) → (width count : ℕ) → List Note
-run_notes left_ids id starts width count = left_notes (numbers id count left_ids) (numbers width count starts)
+pub record RunRanked (ranks left_ids : List ℕ) : Type 0 where
+  pub inside : all_below (length ranks) left_ids ≡ true
+  pub low : all_below most_walked left_ids ≡ true
 
 -- There is room for so many notes.
 pub record NoteRoom (places ids : List ℕ) (count : ℕ) : Type 0 where

@@ -1,8 +1,7 @@
 -- Where the places of a list stand, and the members of an object in the order of their normal ids, noted in tables.
-use Rattle.std.specs.Prelude.{List, [], ◌∷◌, map, ◌≡◌, ℕ, ◌+◌, ◌*◌, ◌≤◌, ◌<◌, length, get_or}
+use Rattle.dictionary.specs.declared.ids.InputId.{InputId}
+use Rattle.std.specs.Prelude.{List, [], ◌∷◌, map, ◌≡◌, ℕ, ◌+◌, ◌*◌, ◌≤◌, ◌<◌, length, get_or, Option, Some, None}
 use Rattle.fields.specs.Telling.{looked_at}
-use Rattle.lookup.specs.declared.Looked.{Looked}
-use Rattle.lookup.specs.declared.Looked.TheVariants.{At, Nowhere}
 use Rattle.paper.specs.Framing.{Piece}
 use Rattle.paper.specs.Schemas.{SchemaFields, none_named, named}
 use Rattle.paper.specs.Words.{numbers}
@@ -40,10 +39,10 @@ left_notes (id ∷ ids) [] = []
 left_notes (id ∷ ids) (start ∷ starts) = record { id = id; place = start; field = 0 } ∷ left_notes ids starts
 
 -- A field that is present.
-unfoldable pub add_note : (body : List ℕ) → Looked → (place field : ℕ) → List Note → List Note
+unfoldable pub add_note : (body : List ℕ) → Option InputId → (place field : ℕ) → List Note → List Note
 add_note [] looked place field notes = notes
-add_note (b ∷ bs) (At id) place field notes = record { id = id.0; place = place; field = field } ∷ notes
-add_note (b ∷ bs) Nowhere place field notes = notes
+add_note (b ∷ bs) (Some id) place field notes = record { id = id.0; place = place; field = field } ∷ notes
+add_note (b ∷ bs) None place field notes = notes
 
 -- Fields that stand from a position on, their places from a place on.
 unfoldable pub field_notes : SchemaFields → (schema table : List ℕ) → (field place : ℕ) → List Piece → List Note

@@ -5,7 +5,6 @@ ghost use Rattle.rebuilt.specs.Rebuilt.{pieces_in};
 ghost use Rattle.noting.specs.Adding.{SomeElements};
 ghost use Rattle.noting.specs.Notes.{piece_places, Spotted};
 
-use frames::Frame;
 use places::place_frame;
 
 // Notes where each of a list's places starts. Answers how many there are.
@@ -15,8 +14,9 @@ pub fn note_elements(body: &[u8], places: &mut [u16]) -> usize
 {
     let mut n = 0;
     let mut at = 0;
+    // Frames are of many lengths, so their places are no range.
     while at < body.len() {
-        let Frame::Ends(end) = place_frame(body, at) else {
+        let Some(end) = place_frame(body, at) else {
             return n;
         };
         places[n] = at as u16;

@@ -3,18 +3,16 @@ ghost use Rattle.std.specs.Prelude.{[], ◌∷◌, ℕ, ◌+◌, ◌-◌, ◌*�
 ghost use Rattle.paper.specs.Bounds.{most_walked};
 ghost use Rattle.paper.specs.Limits.{most_schema, most_row};
 ghost use Rattle.paper.specs.Schemas.{SchemaFields};
-ghost use Rattle.paper.specs.Words.{numbers};
 ghost use Rattle.rebuilt.specs.Rebuilt.{pieces_in};
 ghost use Rattle.schemas.specs.Positions.{FieldsStand};
-ghost use Rattle.noting.specs.Adding.{SomeMembers, LeftRun, RunRanked, run_notes, NoteRoom, Added, LeftAdded, FieldAdded};
+ghost use Rattle.noting.specs.Adding.{SomeMembers, LeftRun, RunRanked, NoteRoom, Added, LeftAdded, FieldAdded};
 ghost use Rattle.noting.specs.Notes.{left_notes, field_notes, Noted, member_notes};
 
-use dictionary::{InputId, input_id_at};
+use dictionary::{InputId, input_id};
 use fields::field_id;
-use frames::Frame;
-use lookup::Looked;
 use places::place_frame;
 use ranking::normal_of;
+use runs::Run;
 use schemas::frame_end;
 
 // Notes a member behind so many.
@@ -32,43 +30,34 @@ fn note(places: &mut [u16], ids: &mut [u8], n: usize, id: InputId, place: usize,
 // which that is.
 fn note_left(
     ranks: &[u16],
-    lefts: &[u8],
-    id: usize,
-    starts: &[u8],
-    width: usize,
+    lefts: &Run,
+    starts: &Run,
     from: usize,
-    count: usize,
     bound: usize,
     places: &mut [u16],
     ids: &mut [u8],
     n: usize,
 ) -> usize
-    requires { LeftRun lefts.now id starts.now width count × RunRanked ranks.now lefts.now id count × (from ≤ count) × NoteRoom places.old ids.old (n + (count - from)) }
-    ensures { LeftAdded ranks.now (run_notes lefts.now id starts.now width count) from count bound places.old ids.old n places.new ids.new result }
+    requires { LeftRun lefts.now starts.now × RunRanked ranks.now lefts.now × (from ≤ length lefts.now) × NoteRoom places.old ids.old (n + (length lefts.now - from)) }
+    ensures { LeftAdded ranks.now (left_notes lefts.now starts.now) from (length lefts.now) bound places.old ids.old n places.new ids.new result }
 {
-    let mut i = from;
-    while i < count {
-        let input = input_id_at(lefts, i * id, id);
+    for i in from..lefts.len() {
+        let input = input_id(lefts, i);
         let normal = normal_of(ranks, input);
         if bound <= normal.0 {
             return i;
         }
-        let start = numbers::read(starts, i * width, width);
-        note(places, ids, n + (i - from), input, start, 0);
-        i += 1;
+        note(places, ids, n + (i - from), input, starts.get(i), 0);
     }
-    i
+    lefts.len()
 }
 
 // Notes a typed member, behind those of a leftover, from one on, whose normal ids are lower; answers which is the next.
 fn note_field(
     ranks: &[u16],
-    lefts: &[u8],
-    id: usize,
-    starts: &[u8],
-    width: usize,
+    lefts: &Run,
+    starts: &Run,
     from: usize,
-    count: usize,
     found: InputId,
     place: usize,
     field: usize,
@@ -76,13 +65,11 @@ fn note_field(
     ids: &mut [u8],
     n: usize,
 ) -> usize
-    requires { LeftRun lefts.now id starts.now width count × RunRanked ranks.now lefts.now id count × (from ≤ count) × NoteRoom places.old ids.old (n + (count - from) + 1) × (found.0 < length ranks.now) × (found.0 < most_walked) × (place < most_walked) × (field < most_walked) }
-    ensures { FieldAdded ranks.now (run_notes lefts.now id starts.now width count) (record { id = found.0; place = place; field = field }) from count places.old ids.old n places.new ids.new result }
+    requires { LeftRun lefts.now starts.now × RunRanked ranks.now lefts.now × (from ≤ length lefts.now) × NoteRoom places.old ids.old (n + (length lefts.now - from) + 1) × (found.0 < length ranks.now) × (found.0 < most_walked) × (place < most_walked) × (field < most_walked) }
+    ensures { FieldAdded ranks.now (left_notes lefts.now starts.now) (record { id = found.0; place = place; field = field }) from (length lefts.now) places.old ids.old n places.new ids.new result }
 {
     let normal = normal_of(ranks, found);
-    let next = note_left(
-        ranks, lefts, id, starts, width, from, count, normal.0, places, ids, n,
-    );
+    let next = note_left(ranks, lefts, starts, from, normal.0, places, ids, n);
     note(places, ids, n + (next - from), found, place, field);
     next
 }
@@ -95,43 +82,37 @@ pub fn note_fields(
     table: &[u16],
     from: usize,
     to: usize,
-    lefts: &[u8],
-    id: usize,
-    starts: &[u8],
-    width: usize,
-    count: usize,
+    lefts: &Run,
+    starts: &Run,
     body: &[u8],
     places: &mut [u16],
     ids: &mut [u8],
 ) -> usize
-    requires some_members { SomeMembers ranks.now schema.now table.now from to (numbers id count lefts.now) body.now × LeftRun lefts.now id starts.now width count }
-    requires schema_len_bound { (length schema.now ≤ most_schema) × (length body.now ≤ most_row) × (2 * count + length body.now ≤ length places.old) × (2 * count + length body.now ≤ length ids.old) }
-    ensures { (columns : SchemaFields) (levels : ℕ) → FieldsStand levels schema.now from to columns → Noted (member_notes ranks.now (field_notes columns schema.now table.now from 0 (pieces_in body.now)) (left_notes (numbers id count lefts.now) (numbers width count starts.now))) places.new ids.new result }
+    requires some_members { SomeMembers ranks.now schema.now table.now from to lefts.now body.now × LeftRun lefts.now starts.now }
+    requires schema_len_bound { (length schema.now ≤ most_schema) × (length body.now ≤ most_row) × (2 * length lefts.now + length body.now ≤ length places.old) × (2 * length lefts.now + length body.now ≤ length ids.old) }
+    ensures { (columns : SchemaFields) (levels : ℕ) → FieldsStand levels schema.now from to columns → Noted (member_notes ranks.now (field_notes columns schema.now table.now from 0 (pieces_in body.now)) (left_notes lefts.now starts.now)) places.new ids.new result }
 {
     let mut n = 0;
     let mut left = 0;
     let mut field = from;
     let mut at = 0;
+    // Frames are of many lengths, so their places are no range.
     while field < to {
-        let Frame::Ends(end) = place_frame(body, at) else {
+        let Some(end) = place_frame(body, at) else {
             return n;
         };
         let behind = frame_end(schema, field);
         if at + 3 < end {
-            let Looked::At(found) = field_id(table, field) else {
+            let Some(found) = field_id(table, field) else {
                 return n;
             };
-            let next = note_field(
-                ranks, lefts, id, starts, width, left, count, found, at, field, places, ids, n,
-            );
+            let next = note_field(ranks, lefts, starts, left, found, at, field, places, ids, n);
             n = n + (next - left) + 1;
             left = next;
         }
         at = end;
         field = behind;
     }
-    let last = note_left(
-        ranks, lefts, id, starts, width, left, count, 65536, places, ids, n,
-    );
+    let last = note_left(ranks, lefts, starts, left, 65536, places, ids, n);
     n + (last - left)
 }

@@ -19,19 +19,19 @@ pub fn read(s: &[u8], place: usize, width: usize) -> usize
     requires { (place + width ≤ length s.now) × (1 ≤ width) × (width ≤ 4) }
     ensures { (result ≡ number_at s.now place width) × (result < 256 ^ width) }
 {
-    let first = wide(s[place]);
+    let first = usize::from(s[place]);
     if width == 1 {
         return first;
     }
-    let second = wide(s[place + 1]);
+    let second = usize::from(s[place + 1]);
     if width == 2 {
         return first + 256 * second;
     }
-    let third = wide(s[place + 2]);
+    let third = usize::from(s[place + 2]);
     if width == 3 {
         return first + 256 * (second + 256 * third);
     }
-    let fourth = wide(s[place + 3]);
+    let fourth = usize::from(s[place + 3]);
     first + 256 * (second + 256 * (third + 256 * fourth))
 }
 

@@ -10,7 +10,11 @@ use lib.Dec.{ltb}
 use lib.ListN.{length, get_or, drop, drop_of_length-le}
 use lib.Seq.{drop-cons}
 use Rattle.order.specs.Before.{before, order_of}
-use Rattle.order.specs.declared.Order.TheVariants.{Less, Equal, Greater}
+use Rattle.std.specs.Prelude.{min}
+use Rattle.std.proofs.Common.{nat_cmp}
+use Rattle.std.proofs.lemmas.Cmp.{ranked}
+use Rattle.std.specs.declared.cmp.Ordering.{Ordering}
+use Rattle.std.specs.declared.cmp.Ordering.TheVariants.{Less, Equal, Greater}
 
 -- ---- byte by byte
 
@@ -40,6 +44,15 @@ module _ (a b : List ℕ) (i : ℕ) (agree : order_of a b ≡ order_of (drop i a
   pub order_ended : length a ≤ i → length b ≤ i → Equal ≡ order_of a b
   unfolding order_of before
   order_ended past past' = rw (agree, drop_of_length-le a past, drop_of_length-le b past')
+
+  -- Where neither goes on, or one alone, the lengths decide.
+  pub order_by_lengths : i ≤ length a → i ≤ length b → min (length a) (length b) ≤ i → nat_cmp (length a) (length b) ≡ order_of a b
+  order_by_lengths in_first in_second past = go (nat_cmp (length a) (length b)) refl
+    where
+      go : (o : Ordering) → o ≡ nat_cmp (length a) (length b) → o ≡ order_of a b
+      go Less e = let h : length a < length b = ranked (length a) (length b) Less e in order_shorter (omega arith) (omega arith)
+      go Equal e = let h : length a ≡ length b = ranked (length a) (length b) Equal e in order_ended (omega arith) (omega arith)
+      go Greater e = let h : length b < length a = ranked (length a) (length b) Greater e in order_longer (omega arith) (omega arith)
 
   module _ (in-a : i < length a) (in_b : i < length b) where
     pub order_lower : get_or a i 0 < get_or b i 0 → Less ≡ order_of a b

@@ -1,7 +1,7 @@
 -- The order of names: "by unsigned bytes" (01), a prefix being smaller.
 use Rattle.std.specs.Prelude.{Bool, true, false, cond, List, [], ◌∷◌, ℕ, ltb, eqb}
-use Rattle.order.specs.declared.Order.{Order}
-use Rattle.order.specs.declared.Order.TheVariants.{Less, Equal, Greater}
+use Rattle.std.specs.declared.cmp.Ordering.{Ordering}
+use Rattle.std.specs.declared.cmp.Ordering.TheVariants.{Less, Equal, Greater}
 
 -- The first byte string comes before the second.
 unfoldable pub before : List ℕ → List ℕ → Bool
@@ -11,5 +11,5 @@ before (x ∷ xs) [] = false
 before (x ∷ xs) (y ∷ ys) = cond (ltb x y) true (cond (eqb x y) (before xs ys) false)
 
 -- How two byte strings stand to each other.
-unfoldable pub order_of : List ℕ → List ℕ → Order
+unfoldable pub order_of : List ℕ → List ℕ → Ordering
 order_of a b = cond (before a b) Less (cond (before b a) Greater Equal)

@@ -1,78 +1,47 @@
 // The order of byte strings: by unsigned bytes, a prefix being smaller.
 #![tactic(auto)]
 
-ghost use Rattle.std.specs.Prelude.{◌≡◌, ◌≤◌};
+ghost use Rattle.std.specs.Prelude.{◌≡◌};
 ghost use Rattle.order.specs.Before.{before, order_of};
 ghost use Rattle.order.specs.Agreed.{Agreed};
 
 use numbers::read8;
-
-// How two byte strings stand to each other.
-#[derive(Clone, Copy)]
-pub enum Order {
-    Less,
-    Equal,
-    Greater,
-}
-
-// The smaller of two numbers.
-fn smaller(x: usize, y: usize) -> usize
-    ensures { (result ≤ x) × (result ≤ y) }
-{
-    if x < y {
-        return x;
-    }
-    y
-}
+use std::cmp::Ordering;
 
 // A place up to which two byte strings agree, looked for eight bytes at a time.
 fn agreed(a: &[u8], b: &[u8]) -> usize
     ensures { Agreed a.now b.now result }
 {
-    let end = smaller(a.len(), b.len());
-    let mut i = 0;
-    while 8 <= end - i {
+    let turns = a.len().min(b.len()) / 8;
+    for turn in 0..turns {
+        let i = 8 * turn;
         if read8(a, i) != read8(b, i) {
             return i;
         }
-        i += 8;
     }
-    i
+    8 * turns
 }
 
-// How two byte strings stand to each other.
-pub fn compare(a: &[u8], b: &[u8]) -> Order
+// How two byte strings stand to each other. (The library's `cmp` of slices goes byte by byte where strings are short.)
+pub fn compare(a: &[u8], b: &[u8]) -> Ordering
     ensures { result ≡ order_of a.now b.now }
 {
-    let mut i = agreed(a, b);
-    while i < a.len() {
-        if b.len() <= i {
-            return Order::Greater;
-        }
+    for i in agreed(a, b)..a.len().min(b.len()) {
         let x = a[i];
         let y = b[i];
         if x < y {
-            return Order::Less;
+            return Ordering::Less;
         }
         if y < x {
-            return Order::Greater;
+            return Ordering::Greater;
         }
-        i += 1;
     }
-    if i < b.len() {
-        return Order::Less;
-    }
-    Order::Equal
+    a.len().cmp(&b.len())
 }
 
 // The first byte string comes before the second.
 pub fn is_before(a: &[u8], b: &[u8]) -> bool
     ensures { result ≡ before a.now b.now }
 {
-    let order = compare(a, b);
-    match order {
-        Order::Less => true,
-        Order::Equal => false,
-        Order::Greater => false,
-    }
+    compare(a, b).is_lt()
 }

@@ -1,28 +1,18 @@
 -- The number and the values of each answer (01, When the register says no). What an answer can carry comes first, with the
 -- rule of zeros; then what each case of each answer carries.
-use Rattle.std.specs.Prelude.{cond, List, [], ◌∷◌, ℕ}
+use Rattle.std.specs.Prelude.{cond, List, [], ◌∷◌, ℕ, Option, None, Some, Ok, Err, ⊤}
 use Rattle.std.specs.Float.Ieee.{to_bits}
 use Rattle.std.specs.Float.{binary32, binary64}
 use Rattle.numbers.specs.Little.{number}
 use Rattle.signed.specs.Signed.{signed_bytes}
-use Rattle.paper.specs.Refusals.{refusal_number}
+use Rattle.paper.specs.Refusals.{Outcome, DocumentAnswer, RowAnswer, refusal_number}
 use Rattle.paper.specs.Words.{at}
+use Rattle.paper.specs.declared.Child.{Child}
+use Rattle.paper.specs.declared.Unwritten.TheVariants.{Refused, Short}
 use Rattle.paper.specs.declared.Refusal.{Refusal}
-use Rattle.paper.specs.declared.Checked.{Checked}
-use Rattle.paper.specs.declared.Checked.TheVariants as checked
-use Rattle.paper.specs.declared.Found.{Found}
-use Rattle.paper.specs.declared.Found.TheVariants as found
-use Rattle.paper.specs.declared.DocumentAnswer.{DocumentAnswer}
-use Rattle.paper.specs.declared.DocumentAnswer.TheVariants as document
-use Rattle.paper.specs.declared.RowAnswer.{RowAnswer}
-use Rattle.paper.specs.declared.RowAnswer.TheVariants as row
 use Rattle.paper.specs.declared.Cell.{Cell}
 use Rattle.paper.specs.declared.Cell.TheVariants.{Boolean, Integer, Float, Double, FloatNan, DoubleNan, Length, Uuid}
-use Rattle.paper.specs.declared.CellAnswer.{CellAnswer}
-use Rattle.paper.specs.declared.CellAnswer.TheVariants as cell
 use Rattle.paper.specs.declared.LotBox.{LotBox}
-use Rattle.paper.specs.declared.BoxAnswer.{BoxAnswer}
-use Rattle.paper.specs.declared.BoxAnswer.TheVariants as box
 
 -- ---- what an answer can carry
 
@@ -59,34 +49,34 @@ value_of (short needed) place = at needed place
 
 -- ---- check: no values
 
-abbrev pub checked_carries : Checked → Carried
-checked_carries checked.Good = done []
-checked_carries (checked.Refused r) = refusal r
+abbrev pub checked_carries : Outcome ⊤ → Carried
+checked_carries (Ok good) = done []
+checked_carries (Err r) = refusal r
 
 -- Its number alone, for the sample lots.
-abbrev pub checked_number : Checked → ℕ
+abbrev pub checked_number : Outcome ⊤ → ℕ
 checked_number answer = number_of (checked_carries answer)
 
 -- ---- find: the start and the length
 
-abbrev pub found_carries : Found → Carried
-found_carries (found.At start length) = done (start ∷ length ∷ [])
-found_carries found.Absent = absent
-found_carries (found.Refused r) = refusal r
+abbrev pub found_carries : Outcome (Option Child) → Carried
+found_carries (Ok (Some part)) = done (part.start ∷ part.size ∷ [])
+found_carries (Ok None) = absent
+found_carries (Err r) = refusal r
 
 -- ---- normalise and rebuild: the length of the metadata, the length of the value
 
 abbrev pub document_carries : DocumentAnswer → Carried
-document_carries (document.Done metadata value) = done (metadata ∷ value ∷ [])
-document_carries (document.Short metadata value) = short (metadata ∷ value ∷ [])
-document_carries (document.Refused r) = refusal r
+document_carries (Ok written) = done (written.metadata ∷ written.value ∷ [])
+document_carries (Err (Short needed)) = short (needed.metadata ∷ needed.value ∷ [])
+document_carries (Err (Refused r)) = refusal r
 
 -- ---- shred: the length of the row
 
 abbrev pub row_carries : RowAnswer → Carried
-row_carries (row.Done length) = done (length ∷ [])
-row_carries (row.Short length) = short (length ∷ [])
-row_carries (row.Refused r) = refusal r
+row_carries (Ok length) = done (length ∷ [])
+row_carries (Err (Short needed)) = short (needed ∷ [])
+row_carries (Err (Refused r)) = refusal r
 
 -- ---- the cell reader: the cell's kind, and the 64-bit number or numbers that it holds
 
@@ -101,16 +91,16 @@ cell_values (DoubleNan bits) = 4 ∷ bits ∷ []
 cell_values (Length length) = 5 ∷ length ∷ []
 cell_values (Uuid first second) = 6 ∷ first ∷ second ∷ []
 
-abbrev pub cell_carries : CellAnswer → Carried
-cell_carries (cell.Read c) = done (cell_values c)
-cell_carries (cell.Refused r) = refusal r
+abbrev pub cell_carries : Outcome Cell → Carried
+cell_carries (Ok c) = done (cell_values c)
+cell_carries (Err r) = refusal r
 
 -- ---- the box reader: the bits of the four sides, east, north, south and west
 
 abbrev pub box_values : LotBox → List ℕ
 box_values b = to_bits binary64 b.east ∷ to_bits binary64 b.north ∷ to_bits binary64 b.south ∷ to_bits binary64 b.west ∷ []
 
-abbrev pub box_carries : BoxAnswer → Carried
-box_carries (box.Read b) = done (box_values b)
-box_carries box.Absent = absent
-box_carries (box.Refused r) = refusal r
+abbrev pub box_carries : Outcome (Option LotBox) → Carried
+box_carries (Ok (Some b)) = done (box_values b)
+box_carries (Ok None) = absent
+box_carries (Err r) = refusal r

@@ -1,6 +1,5 @@
 -- Typed cells (01): which values a column takes, how a cell is written and what it means; and the reader of one cell.
-use Rattle.std.specs.Prelude.{Bool, true, false, cond, ◌&&◌, ◌||◌, List, [], ◌∷◌, ℕ, leb, eqb, length, take, drop, get_or}
-use Rattle.std.proofs.Math.Option.{Option, none, some}
+use Rattle.std.specs.Prelude.{Bool, true, false, cond, ◌&&◌, ◌||◌, List, [], ◌∷◌, ℕ, leb, eqb, length, take, drop, get_or, Option, None, Some}
 use Rattle.std.specs.Float.Ieee.{of_bits, nan_bits}
 use Rattle.std.specs.Float.{binary32, binary64}
 use Rattle.numbers.specs.Little.{number}
@@ -33,10 +32,10 @@ unfoldable pub body_kind : (code : ℕ) → BodyKind
 body_kind code = cond (eqb code 1) yes_no (cond (eqb code 15) binary (cond (eqb code 16) string sized))
 
 unfoldable pub cell_by : BodyKind → (code : ℕ) → List ℕ → Option Scalar
-cell_by yes_no code s = given (eqb (length s) 1 && leb (at s 0) 1) (some (boolean (eqb (at s 0) 1)))
+cell_by yes_no code s = given (eqb (length s) 1 && leb (at s 0) 1) (Some (boolean (eqb (at s 0) 1)))
 cell_by string code s = text_meaning s
-cell_by binary code s = some (payload code s)
-cell_by sized code s = given (eqb (length s) (get_or payload_sizes code 0)) (some (payload code s))
+cell_by binary code s = Some (payload code s)
+cell_by sized code s = given (eqb (length s) (get_or payload_sizes code 0)) (Some (payload code s))
 
 -- What a cell's bytes mean in its column, if they have the right size and content.
 unfoldable pub cell_meaning : Column → List ℕ → Option Scalar

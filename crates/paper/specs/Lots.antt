@@ -1,6 +1,6 @@
 -- "Sample lots" (01): the starred ones, and lots that a tempting wrong reading would answer otherwise.
-use Rattle.std.specs.Prelude.{◌≡◌, true, List, [], ◌∷◌, ℕ, zero, suc}
-use Rattle.paper.specs.Refusals.{Outcome, refused, reached}
+use Rattle.std.specs.Prelude.{◌≡◌, true, List, [], ◌∷◌, ℕ, zero, suc, Err, Ok}
+use Rattle.paper.specs.Refusals.{Outcome}
 use Rattle.paper.specs.Meaning.{Doc, null, scalar, boolean, payload, text, object, Fields, no_fields, field}
 use Rattle.paper.specs.Normal.{Document, array_bytes}
 use Rattle.paper.specs.Operations.{check_outcome, check_answer, shred_outcome, rebuild_outcome}
@@ -18,10 +18,10 @@ pub data Lot : Type 0 where
 -- A lot holds of the definitions.
 unfoldable pub Holds : Lot → Type 0
 Holds (checks metadata value number) = checked_number (check_answer metadata value) ≡ number
-Holds (means metadata value d) = check_outcome metadata value ≡ reached d
-Holds (shreds schema metadata value row) = shred_outcome schema metadata value ≡ reached row
-Holds (rebuilds schema row metadata value) = rebuild_outcome schema row ≡ reached (record { metadata = metadata; value = value })
-Holds (refused_row schema row refusal) = rebuild_outcome schema row ≡ refused refusal
+Holds (means metadata value d) = check_outcome metadata value ≡ Ok d
+Holds (shreds schema metadata value row) = shred_outcome schema metadata value ≡ Ok row
+Holds (rebuilds schema row metadata value) = rebuild_outcome schema row ≡ Ok (record { metadata = metadata; value = value })
+Holds (refused_row schema row refusal) = rebuild_outcome schema row ≡ Err refusal
 
 unfoldable pub AllHold : List Lot → Type 0
 unfolding Holds

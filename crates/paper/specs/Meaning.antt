@@ -1,6 +1,5 @@
 -- "What a document means" (01). Two documents mean the same exactly when these are equal.
-use Rattle.std.specs.Prelude.{Bool, List, ℕ}
-use Rattle.std.proofs.Math.Option.{Option, some}
+use Rattle.std.specs.Prelude.{Bool, List, ℕ, Option, Some}
 
 -- A boolean; a payload with its type (an int8 34 is not an int64 34; floats and doubles go by their bits); a string's
 -- bytes, short or long.
@@ -11,7 +10,7 @@ pub data Scalar : Type 0 where
 
 -- What a string's bytes mean, short or long, in a value or in a cell. Any bytes are text.
 unfoldable pub text_meaning : List ℕ → Option Scalar
-text_meaning s = some (text s)
+text_meaning s = Some (text s)
 
 -- Null; a scalar; an array's list; an object's map from names to meanings, kept with the names rising.
 mutual

@@ -1,6 +1,5 @@
 -- "Metadata" (01): a header, the count, count + 1 offsets, the names.
-use Rattle.std.specs.Prelude.{Bool, true, false, not, ◌&&◌, ◌||◌, List, [], ◌∷◌, ℕ, ◌+◌, ◌*◌, ◌/◌, ◌%◌, leb, eqb, length, drop}
-use Rattle.std.proofs.Math.Option.{Option, some}
+use Rattle.std.specs.Prelude.{Bool, true, false, not, ◌&&◌, ◌||◌, List, [], ◌∷◌, ℕ, ◌+◌, ◌*◌, ◌/◌, ◌%◌, leb, eqb, length, drop, Option, Some}
 use Rattle.numbers.specs.Little.{number_at}
 use Rattle.order.specs.Before.{before}
 use Rattle.paper.specs.Words.{at, part, given, numbers, last_of}
@@ -71,4 +70,4 @@ dictionary_of metadata =
     given (leb 1 (length metadata) && header_good (at metadata 0))
     (given (framed metadata)
     (given (offsets_good (name_offsets metadata) (names_area metadata))
-    (given (not (flag_set (at metadata 0)) || rising (names_in metadata)) (some (names_in metadata)))))
+    (given (not (flag_set (at metadata 0)) || rising (names_in metadata)) (Some (names_in metadata)))))

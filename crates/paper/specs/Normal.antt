@@ -1,8 +1,8 @@
 -- "Normal form" (01): the one way to write what a document means.
 use Rattle.std.specs.Prelude.{Bool, true, false, cond, List, [], ◌∷◌, ◌++◌, map, ℕ, zero, suc, ◌+◌, ◌-◌, ◌*◌, max, leb, eqb, length}
 use Rattle.numbers.specs.Little.{number_bytes, smallest_width}
-use Rattle.order.specs.declared.Order.{Order}
-use Rattle.order.specs.declared.Order.TheVariants.{Less, Equal, Greater}
+use Rattle.std.specs.declared.cmp.Ordering.{Ordering}
+use Rattle.std.specs.declared.cmp.Ordering.TheVariants.{Less, Equal, Greater}
 use Rattle.order.specs.Before.{order_of}
 use Rattle.paper.specs.Words.{same, joined}
 use Rattle.paper.specs.Metadata.{Dictionary}
@@ -13,7 +13,7 @@ use Rattle.paper.specs.Meaning.{Scalar, boolean, payload, text, Doc, null, scala
 
 -- By how a name compares with the first of some rising names: in front of it, already there, or somewhere behind it;
 -- `inserted` is what putting it among the names behind gives.
-unfoldable pub insert_by : Order → (name first : List ℕ) → (more inserted : Dictionary) → Dictionary
+unfoldable pub insert_by : Ordering → (name first : List ℕ) → (more inserted : Dictionary) → Dictionary
 insert_by Less name first more inserted = name ∷ first ∷ more
 insert_by Equal name first more inserted = first ∷ more
 insert_by Greater name first more inserted = first ∷ inserted

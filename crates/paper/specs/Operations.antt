@@ -1,12 +1,12 @@
 -- The seven operations (01, The job): what each answers, and the bytes that it writes, from its inputs and the rooms of
 -- its output buffers. Each judges in the order of the refusals' numbers.
-use Rattle.std.specs.Prelude.{Bool, true, false, cond, ◌&&◌, List, [], ◌∷◌, ℕ, leb, length}
-use Rattle.std.proofs.Math.Option.{Option, none, some}
+use Rattle.std.specs.Prelude.{Bool, true, false, cond, ◌&&◌, List, [], ◌∷◌, ℕ, leb, length, Option, None, Some, Err, Ok, ⊤}
 use Rattle.paper.specs.Limits.{most_metadata, most_value, most_schema, most_path, most_row, most_cell, most_levels}
-use Rattle.paper.specs.Refusals.{Outcome, refused, reached, require, obtain}
+use Rattle.paper.specs.Refusals.{Outcome, DocumentAnswer, RowAnswer, require, obtain}
 use Rattle.paper.specs.Metadata.{Dictionary, dictionary_of}
 use Rattle.paper.specs.Meaning.{Doc}
-use Rattle.paper.specs.Values.{Child, meaning_of}
+use Rattle.paper.specs.Values.{meaning_of}
+use Rattle.paper.specs.declared.Child.{Child}
 use Rattle.paper.specs.Normal.{Document, normal_form}
 use Rattle.paper.specs.Schemas.{Schema, column_of, schema_of}
 use Rattle.paper.specs.Cells.{cell_meaning, handed_out}
@@ -16,16 +16,12 @@ use Rattle.paper.specs.Shredding.{row_bytes}
 use Rattle.paper.specs.Rebuilding.{row_meaning}
 use Rattle.paper.specs.Paths.{path_of, find_from}
 use Rattle.paper.specs.Boxes.{box_of}
+use Rattle.paper.specs.declared.DocumentLengths.{DocumentLengths}
+use Rattle.paper.specs.declared.Unwritten.TheVariants.{Refused, Short}
 use Rattle.paper.specs.declared.Refusal.{Refusal}
 use Rattle.paper.specs.declared.Refusal.TheVariants.{TooLong, BadMetadata, BadValue, BadSchema, BadPath, BadRow, BrokenRule, TooLarge}
-use Rattle.paper.specs.declared.Checked.{Checked}
-use Rattle.paper.specs.declared.Found.{Found}
-use Rattle.paper.specs.declared.DocumentAnswer.{DocumentAnswer}
-use Rattle.paper.specs.declared.RowAnswer.{RowAnswer}
 use Rattle.paper.specs.declared.Cell.{Cell}
-use Rattle.paper.specs.declared.CellAnswer.{CellAnswer}
 use Rattle.paper.specs.declared.LotBox.{LotBox}
-use Rattle.paper.specs.declared.BoxAnswer.{BoxAnswer}
 
 -- A lent value judged under its dictionary, and what comes of its meaning. The outermost value is level 1.
 unfoldable pub value_judged : {A : Type 0} → Dictionary → List ℕ → (Doc → Outcome A) → Outcome A
@@ -43,29 +39,22 @@ document_fits metadata value = leb (length metadata) most_metadata && leb (lengt
 
 unfoldable pub check_outcome : List ℕ → List ℕ → Outcome Doc
 check_outcome metadata value =
-    require (document_fits metadata value) TooLong (judged metadata value λ names d. reached d)
+    require (document_fits metadata value) TooLong (judged metadata value λ names d. Ok d)
 
-unfoldable pub checked_by : {A : Type 0} → Outcome A → Checked
-checked_by (refused r) = Checked.Refused r
-checked_by (reached a) = Checked.Good
+-- Good, and nothing more.
+unfoldable pub checked_by : {A : Type 0} → Outcome A → Outcome ⊤
+checked_by (Err r) = Err r
+checked_by (Ok a) = Ok tt
 
-unfoldable pub check_answer : List ℕ → List ℕ → Checked
+unfoldable pub check_answer : List ℕ → List ℕ → Outcome ⊤
 check_answer metadata value = checked_by (check_outcome metadata value)
 
 -- ---- find
 
-unfoldable pub find_outcome : List ℕ → List ℕ → List ℕ → Outcome (Option Child)
-find_outcome metadata value path =
+unfoldable pub find_answer : List ℕ → List ℕ → List ℕ → Outcome (Option Child)
+find_answer metadata value path =
     require (document_fits metadata value && leb (length path) most_path) TooLong
-    (judged metadata value λ names d. obtain (path_of path) BadPath λ steps. reached (find_from names steps 0 value))
-
-unfoldable pub found_by : Outcome (Option Child) → Found
-found_by (refused r) = Found.Refused r
-found_by (reached none) = Found.Absent
-found_by (reached (some child)) = Found.At child.start child.size
-
-unfoldable pub find_answer : List ℕ → List ℕ → List ℕ → Found
-find_answer metadata value path = found_by (find_outcome metadata value path)
+    (judged metadata value λ names d. obtain (path_of path) BadPath λ steps. Ok (find_from names steps 0 value))
 
 -- ---- a document to be written: its normal form, if it may be written
 
@@ -74,29 +63,30 @@ unfoldable pub writable : Doc → Bool
 writable d = leb (length (normal_form d).value) most_value
 
 unfoldable pub written : Doc → Outcome Document
-written d = require (writable d) TooLarge (reached (normal_form d))
+written d = require (writable d) TooLarge (Ok (normal_form d))
 
 -- Into two buffers: both must have room.
 unfoldable pub document_room : Document → (metadata_room value_room : ℕ) → Bool
 document_room document metadata_room value_room =
     leb (length document.metadata) metadata_room && leb (length document.value) value_room
 
+abbrev pub lengths_of : Document → DocumentLengths
+lengths_of document = record { metadata = length document.metadata; value = length document.value }
+
 unfoldable pub document_answer : Outcome Document → (metadata_room value_room : ℕ) → DocumentAnswer
-document_answer (refused r) metadata_room value_room = DocumentAnswer.Refused r
-document_answer (reached document) metadata_room value_room =
-    cond (document_room document metadata_room value_room)
-    (DocumentAnswer.Done (length document.metadata) (length document.value))
-    (DocumentAnswer.Short (length document.metadata) (length document.value))
+document_answer (Err r) metadata_room value_room = Err (Refused r)
+document_answer (Ok document) metadata_room value_room =
+    cond (document_room document metadata_room value_room) (Ok (lengths_of document)) (Err (Short (lengths_of document)))
 
 -- What stands in front of each buffer afterwards: nothing new, unless done.
 unfoldable pub metadata_written : Outcome Document → (metadata_room value_room : ℕ) → List ℕ
-metadata_written (refused r) metadata_room value_room = []
-metadata_written (reached document) metadata_room value_room =
+metadata_written (Err r) metadata_room value_room = []
+metadata_written (Ok document) metadata_room value_room =
     cond (document_room document metadata_room value_room) document.metadata []
 
 unfoldable pub value_written : Outcome Document → (metadata_room value_room : ℕ) → List ℕ
-value_written (refused r) metadata_room value_room = []
-value_written (reached document) metadata_room value_room =
+value_written (Err r) metadata_room value_room = []
+value_written (Ok document) metadata_room value_room =
     cond (document_room document metadata_room value_room) document.value []
 
 -- ---- normalise
@@ -109,7 +99,7 @@ normalise_outcome metadata value =
 
 -- A document's row, if both it and the document's normal form may be written.
 unfoldable pub row_outcome : Schema → Doc → Outcome (List ℕ)
-row_outcome node d = require (writable d && leb (length (row_bytes node d)) most_row) TooLarge (reached (row_bytes node d))
+row_outcome node d = require (writable d && leb (length (row_bytes node d)) most_row) TooLarge (Ok (row_bytes node d))
 
 unfoldable pub shred_outcome : List ℕ → List ℕ → List ℕ → Outcome (List ℕ)
 shred_outcome schema metadata value =
@@ -119,12 +109,12 @@ shred_outcome schema metadata value =
     row_outcome node d)
 
 unfoldable pub row_answer : Outcome (List ℕ) → (room : ℕ) → RowAnswer
-row_answer (refused r) room = RowAnswer.Refused r
-row_answer (reached row) room = cond (leb (length row) room) (RowAnswer.Done (length row)) (RowAnswer.Short (length row))
+row_answer (Err r) room = Err (Refused r)
+row_answer (Ok row) room = cond (leb (length row) room) (Ok (length row)) (Err (Short (length row)))
 
 unfoldable pub row_written : Outcome (List ℕ) → (room : ℕ) → List ℕ
-row_written (refused r) room = []
-row_written (reached row) room = cond (leb (length row) room) row []
+row_written (Err r) room = []
+row_written (Ok row) room = cond (leb (length row) room) row []
 
 -- ---- a lent row judged under a lent schema: 1, 4, 6 and then 7, and what comes of its node and what it holds
 
@@ -136,8 +126,8 @@ row_judged schema row next =
     require (row_lawful node parsed) BrokenRule (next node parsed))
 
 -- The judgement by itself.
-unfoldable pub judge_answer : List ℕ → List ℕ → Checked
-judge_answer schema row = checked_by (row_judged schema row λ node parsed. reached parsed)
+unfoldable pub judge_answer : List ℕ → List ℕ → Outcome ⊤
+judge_answer schema row = checked_by (row_judged schema row λ node parsed. Ok parsed)
 
 -- ---- rebuild
 
@@ -146,30 +136,15 @@ rebuild_outcome schema row = row_judged schema row λ node parsed. written (row_
 
 -- ---- one typed cell: "the type codes are those of a schema"
 
-unfoldable pub cell_outcome : (code : ℕ) → List ℕ → Outcome Cell
-cell_outcome code s =
+unfoldable pub cell_answer : (code : ℕ) → List ℕ → Outcome Cell
+cell_answer code s =
     require (leb (length s) most_cell) TooLong
     (obtain (column_of (code ∷ [])) BadSchema λ column.
     obtain (cell_meaning column s) BadRow λ value.
-    reached (handed_out value))
-
-unfoldable pub cell_read_by : Outcome Cell → CellAnswer
-cell_read_by (refused r) = CellAnswer.Refused r
-cell_read_by (reached cell) = CellAnswer.Read cell
-
-unfoldable pub cell_answer : (code : ℕ) → List ℕ → CellAnswer
-cell_answer code s = cell_read_by (cell_outcome code s)
+    Ok (handed_out value))
 
 -- ---- a lot's box
 
-unfoldable pub box_outcome : List ℕ → List ℕ → Outcome (Option LotBox)
-box_outcome metadata value =
-    require (document_fits metadata value) TooLong (judged metadata value λ names d. reached (box_of d))
-
-unfoldable pub box_read_by : Outcome (Option LotBox) → BoxAnswer
-box_read_by (refused r) = BoxAnswer.Refused r
-box_read_by (reached none) = BoxAnswer.Absent
-box_read_by (reached (some box)) = BoxAnswer.Read box
-
-unfoldable pub box_answer : List ℕ → List ℕ → BoxAnswer
-box_answer metadata value = box_read_by (box_outcome metadata value)
+unfoldable pub box_answer : List ℕ → List ℕ → Outcome (Option LotBox)
+box_answer metadata value =
+    require (document_fits metadata value) TooLong (judged metadata value λ names d. Ok (box_of d))

@@ -1,8 +1,7 @@
 -- What a lawful row means (01), of which rebuild writes the normal form.
-use Rattle.std.specs.Prelude.{List, ℕ}
-use Rattle.std.proofs.Math.Option.{Option, none, some}
-use Rattle.order.specs.declared.Order.{Order}
-use Rattle.order.specs.declared.Order.TheVariants.{Less, Equal, Greater}
+use Rattle.std.specs.Prelude.{List, ℕ, Option, None, Some}
+use Rattle.std.specs.declared.cmp.Ordering.{Ordering}
+use Rattle.std.specs.declared.cmp.Ordering.TheVariants.{Less, Equal, Greater}
 use Rattle.order.specs.Before.{order_of}
 use Rattle.paper.specs.Meaning.{Doc, null, scalar, array, object, Docs, no_docs, doc, Fields, no_fields, field}
 use Rattle.paper.specs.Schemas.{Schema, leftover_only, column, list, fields, SchemaFields, none_named, named}
@@ -12,7 +11,7 @@ use Rattle.paper.specs.Rows.{Place, empty, leftover, typed, both, Typed, cell, i
 
 -- As `insert_by` of `Normal.antt`: by how the name compares with the first one; `inserted` is what going on behind the first
 -- one gives. A lawful row never has the same name twice (rule c).
-unfoldable pub insert_field_by : Order → List ℕ → Doc → List ℕ → Doc → Fields → Fields → Fields
+unfoldable pub insert_field_by : Ordering → List ℕ → Doc → List ℕ → Doc → Fields → Fields → Fields
 insert_field_by Less name d first e more inserted = field name d (field first e more)
 insert_field_by Equal name d first e more inserted = field name d more
 insert_field_by Greater name d first e more inserted = field first e inserted
@@ -36,15 +35,15 @@ fields_in (object fs) = fs
 
 -- An empty place is a missing field; the outermost one is null.
 unfoldable pub or_null : Option Doc → Doc
-or_null none = null
-or_null (some d) = d
+or_null None = null
+or_null (Some d) = d
 
 -- What a place means, by what its typed body means.
 unfoldable pub place_meaning_by : (Typed → Doc) → Place → Option Doc
-place_meaning_by typed_means empty = none
-place_meaning_by typed_means (leftover d) = some d
-place_meaning_by typed_means (typed t) = some (typed_means t)
-place_meaning_by typed_means (both d t) = some (object (merge (fields_in d) (fields_in (typed_means t))))
+place_meaning_by typed_means empty = None
+place_meaning_by typed_means (leftover d) = Some d
+place_meaning_by typed_means (typed t) = Some (typed_means t)
+place_meaning_by typed_means (both d t) = Some (object (merge (fields_in d) (fields_in (typed_means t))))
 
 -- A cell. (Where one belongs, a row that parsed has no inner places.)
 unfoldable pub cell_doc : Typed → Doc
@@ -62,8 +61,8 @@ list_meaning means no_places = no_docs
 list_meaning means (place p ps) = doc (or_null (means p)) (list_meaning means ps)
 
 unfoldable pub add_field : List ℕ → Option Doc → Fields → Fields
-add_field name none fs = fs
-add_field name (some d) fs = field name d fs
+add_field name None fs = fs
+add_field name (Some d) fs = field name d fs
 
 -- What a place under a node means; nothing if it is empty. (Under node `00` a row that parsed has nothing typed.)
 unfoldable mutual

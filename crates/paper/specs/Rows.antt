@@ -1,6 +1,5 @@
 -- Rows (01): `40` metadata, `50` the outermost place, nothing more; and when a row does not parse under its schema.
-use Rattle.std.specs.Prelude.{cond, ◌&&◌, List, [], ◌∷◌, ℕ, ◌-◌, leb, eqb, length}
-use Rattle.std.proofs.Math.Option.{Option, none, some}
+use Rattle.std.specs.Prelude.{cond, ◌&&◌, List, [], ◌∷◌, ℕ, ◌-◌, leb, eqb, length, Option, None, Some}
 use Rattle.paper.specs.Words.{given, and_then}
 use Rattle.paper.specs.Limits.{most_leftover, most_metadata, most_levels}
 use Rattle.paper.specs.Metadata.{Dictionary, dictionary_of}
@@ -33,14 +32,14 @@ leftover_meaning levels names s = given (leb (length s) most_leftover) (meaning_
 
 -- What a place holds, by what reads a leftover and what reads a typed body.
 unfoldable pub place_parts : (List ℕ → Option Doc) → (List ℕ → Option Typed) → List Piece → Option Place
-place_parts left right [] = some empty
+place_parts left right [] = Some empty
 place_parts left right (first ∷ []) =
-    cond (eqb first.tag 0x41) (and_then (left first.body) λ d. some (leftover d))
-    (given (eqb first.tag 0x42) (and_then (right first.body) λ t. some (typed t)))
+    cond (eqb first.tag 0x41) (and_then (left first.body) λ d. Some (leftover d))
+    (given (eqb first.tag 0x42) (and_then (right first.body) λ t. Some (typed t)))
 place_parts left right (first ∷ second ∷ []) =
     given (eqb first.tag 0x41 && eqb second.tag 0x42)
-    (and_then (left first.body) λ d. and_then (right second.body) λ t. some (both d t))
-place_parts left right (first ∷ second ∷ third ∷ more) = none
+    (and_then (left first.body) λ d. and_then (right second.body) λ t. Some (both d t))
+place_parts left right (first ∷ second ∷ third ∷ more) = None
 
 -- Every place, inner ones too, has the tag `50`.
 unfoldable pub place_by : (List ℕ → Option Doc) → (List ℕ → Option Typed) → Piece → Option Place
@@ -55,19 +54,19 @@ place_within levels names right piece = place_by (leftover_meaning levels names)
 
 -- There is none under node `00`.
 unfoldable pub no_body : List ℕ → Option Typed
-no_body s = none
+no_body s = None
 
 unfoldable pub cell_body : Column → List ℕ → Option Typed
-cell_body said s = and_then (cell_meaning said s) λ value. some (cell said value)
+cell_body said s = and_then (cell_meaning said s) λ value. Some (cell said value)
 
 -- Inner places, by what reads them.
 unfoldable pub inner_body : (List Piece → Option Places) → List ℕ → Option Typed
-inner_body read s = and_then (pieces_of s) λ pieces. and_then (read pieces) λ ps. some (inner ps)
+inner_body read s = and_then (pieces_of s) λ pieces. and_then (read pieces) λ ps. Some (inner ps)
 
 -- A list's places, by what reads one.
 unfoldable pub list_places : (Piece → Option Place) → List Piece → Option Places
-list_places read [] = some no_places
-list_places read (piece ∷ more) = and_then (read piece) λ p. and_then (list_places read more) λ ps. some (place p ps)
+list_places read [] = Some no_places
+list_places read (piece ∷ more) = and_then (read piece) λ p. and_then (list_places read more) λ ps. Some (place p ps)
 
 -- ---- a place under a node, with so many levels left
 
@@ -82,13 +81,13 @@ unfoldable mutual
 
   -- An object's places, one for each schema field in schema order.
   pub field_places : SchemaFields → (levels : ℕ) → Dictionary → List Piece → Option Places
-  field_places none_named levels names [] = some no_places
-  field_places none_named levels names (piece ∷ more) = none
-  field_places (named name node columns) levels names [] = none
+  field_places none_named levels names [] = Some no_places
+  field_places none_named levels names (piece ∷ more) = None
+  field_places (named name node columns) levels names [] = None
   field_places (named name node columns) levels names (piece ∷ more) =
       and_then (place_under node levels names piece) λ p.
       and_then (field_places columns levels names more) λ ps.
-      some (place p ps)
+      Some (place p ps)
 
 -- A row that parses: its dictionary and its outermost place.
 pub record Row : Type 0 where
@@ -96,14 +95,14 @@ pub record Row : Type 0 where
   pub outermost : Place
 
 unfoldable pub row_parts : Schema → List Piece → Option Row
-row_parts schema [] = none
-row_parts schema (first ∷ []) = none
+row_parts schema [] = None
+row_parts schema (first ∷ []) = None
 row_parts schema (first ∷ second ∷ []) =
     given (eqb first.tag 0x40 && leb (length first.body) most_metadata)
     (and_then (dictionary_of first.body) λ names.
     and_then (place_under schema most_levels names second) λ p.
-    some (record { names = names; outermost = p }))
-row_parts schema (first ∷ second ∷ third ∷ more) = none
+    Some (record { names = names; outermost = p }))
+row_parts schema (first ∷ second ∷ third ∷ more) = None
 
 unfoldable pub row_of : Schema → List ℕ → Option Row
 row_of schema s = and_then (pieces_of s) λ pieces. row_parts schema pieces

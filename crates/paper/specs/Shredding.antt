@@ -1,6 +1,5 @@
 -- What shred writes (01): normal metadata and normal leftovers.
-use Rattle.std.specs.Prelude.{Bool, true, false, cond, List, [], ◌∷◌, ◌++◌, ℕ}
-use Rattle.std.proofs.Math.Option.{Option, none, some}
+use Rattle.std.specs.Prelude.{Bool, true, false, cond, List, [], ◌∷◌, ◌++◌, ℕ, Option, None, Some}
 use Rattle.paper.specs.Words.{among}
 use Rattle.paper.specs.Metadata.{Dictionary}
 use Rattle.paper.specs.Meaning.{Scalar, Doc, null, scalar, array, object, Docs, no_docs, doc, Fields, no_fields, field}
@@ -33,8 +32,8 @@ cut_all cut_one (doc d ds) = place (cut_one d) (cut_all cut_one ds)
 
 -- A missing field is an empty place.
 unfoldable pub cut_field : (Doc → Place) → Option Doc → Place
-cut_field cut_one none = empty
-cut_field cut_one (some d) = cut_one d
+cut_field cut_one None = empty
+cut_field cut_one (Some d) = cut_one d
 
 -- A document under a node. Null is always leftover; an array under a list node and an object under an object node are
 -- typed; all else is leftover unless a column takes it.

@@ -1,6 +1,5 @@
 -- Small words that the definitions share. A byte is a number below 256, and bytes are a list of them.
-use Rattle.std.specs.Prelude.{Bool, true, false, ◌&&◌, ◌||◌, List, [], ◌∷◌, ◌++◌, ℕ, zero, suc, ◌-◌, ltb, eqb, get_or, take, drop}
-use Rattle.std.proofs.Math.Option.{Option, none, some}
+use Rattle.std.specs.Prelude.{Bool, true, false, ◌&&◌, ◌||◌, List, [], ◌∷◌, ◌++◌, ℕ, zero, suc, ◌-◌, ltb, eqb, get_or, take, drop, Option, None, Some}
 use Rattle.numbers.specs.Little.{number}
 
 -- The byte, or number, at a place; 0 past the end.
@@ -12,9 +11,9 @@ abbrev pub part : List ℕ → ℕ → ℕ → List ℕ
 part s from to = take (to - from) (drop from s)
 
 -- Something that is there only if a test passes.
-unfoldable pub given {ℓ} : {A : Type ℓ} → Bool → Option A → Option A
+unfoldable pub given : {A : Type 0} → Bool → Option A → Option A
 given true x = x
-given false x = none
+given false x = None
 
 -- 1 if a test passes, else 0.
 unfoldable pub one_if : Bool → ℕ
@@ -22,14 +21,14 @@ one_if true = 1
 one_if false = 0
 
 -- It is there.
-unfoldable pub is_there {ℓ} : {A : Type ℓ} → Option A → Bool
-is_there none = false
-is_there (some a) = true
+unfoldable pub is_there : {A : Type 0} → Option A → Bool
+is_there None = false
+is_there (Some a) = true
 
 -- What comes of something, if it is there.
-unfoldable pub and_then {ℓ κ} : {A : Type ℓ} {B : Type κ} → Option A → (A → Option B) → Option B
-and_then none next = none
-and_then (some a) next = next a
+unfoldable pub and_then : {A B : Type 0} → Option A → (A → Option B) → Option B
+and_then None next = None
+and_then (Some a) next = next a
 
 -- Numbers of one width that stand one after another: so many, as far as the bytes go.
 unfoldable pub numbers : ℕ → ℕ → List ℕ → List ℕ

@@ -5,6 +5,10 @@
 ghost use Rattle.std.specs.Prelude.{◌≡◌};
 ghost use Rattle.paper.specs.Constants.{AsStated};
 ghost use Rattle.paper.specs.Refusals.{refusal_number};
+ghost use Rattle.paper.specs.declared.Unwritten.TheVariants.{Refused};
+
+use std::error::Error;
+use std::fmt;
 
 // What a register may hold: the numbers of `specs/Limits.antt`, for the code.
 pub const MOST_METADATA: usize = 16384;
@@ -52,7 +56,7 @@ pub fn may_hold() -> Limits
 }
 
 // Why the register says no, in the order of 01's numbers 1 to 8. (9 is an answer that carries the lengths needed.)
-#[derive(Clone, Copy)]
+#[derive(Clone, Copy, Debug, PartialEq, Eq)]
 pub enum Refusal {
     TooLong,
     BadMetadata,
@@ -65,20 +69,41 @@ pub enum Refusal {
 }
 
 // The number that 01 gives a refusal.
-pub fn number(refusal: Refusal) -> u8
-    ensures { result ≡ refusal_number refusal }
-{
-    match refusal {
-        Refusal::TooLong => 1,
-        Refusal::BadMetadata => 2,
-        Refusal::BadValue => 3,
-        Refusal::BadSchema => 4,
-        Refusal::BadPath => 5,
-        Refusal::BadRow => 6,
-        Refusal::BrokenRule => 7,
-        Refusal::TooLarge => 8,
+impl From<Refusal> for u8 {
+    ghost from_gives = { λ refusal n. n ≡ refusal_number refusal };
+
+    fn from(refusal: Refusal) -> u8 {
+        match refusal {
+            Refusal::TooLong => 1,
+            Refusal::BadMetadata => 2,
+            Refusal::BadValue => 3,
+            Refusal::BadSchema => 4,
+            Refusal::BadPath => 5,
+            Refusal::BadRow => 6,
+            Refusal::BrokenRule => 7,
+            Refusal::TooLarge => 8,
+        }
     }
 }
+
+// A refusal in 01's words, shortened: 01 also says "lent metadata", "lent value .. nesting included", and for 8 "shred also:
+// the row".
+impl fmt::Display for Refusal {
+    fn fmt<W: fmt::Write>(&self, f: &mut fmt::Formatter<W>) -> fmt::Result {
+        f.write_str(match self {
+            Refusal::TooLong => "an input is longer than a register may hold",
+            Refusal::BadMetadata => "the metadata breaks its rules",
+            Refusal::BadValue => "the value breaks its rules under that metadata",
+            Refusal::BadSchema => "the schema, or the type code, breaks its rules",
+            Refusal::BadPath => "the path breaks its rules",
+            Refusal::BadRow => "the row does not parse, or the cell has the wrong size or content",
+            Refusal::BrokenRule => "the row parses but breaks a rule a to f",
+            Refusal::TooLarge => "the normal value passes 16,384 bytes, or the row 65,535",
+        })
+    }
+}
+
+impl Error for Refusal {}
 
 // What a first byte says. Numbers are the bytes that a count, an id, an offset or a payload takes.
 #[derive(Clone, Copy)]
@@ -109,39 +134,45 @@ pub enum Reading {
     Nothing,
 }
 
-// The answer of check.
-#[derive(Clone, Copy)]
-pub enum Checked {
-    Good,
-    Refused(Refusal),
+// A part of a value: where it starts, and how long it says it is.
+#[derive(Clone, Copy, Debug, PartialEq, Eq)]
+pub struct Child {
+    pub start: usize,
+    pub size: usize,
 }
 
-// The answer of find.
-#[derive(Clone, Copy)]
-pub enum Found {
-    At { start: usize, length: usize },
-    Absent,
-    Refused(Refusal),
+// The lengths of a document: of its metadata and of its value.
+#[derive(Clone, Copy, Debug, PartialEq, Eq)]
+pub struct DocumentLengths {
+    pub metadata: usize,
+    pub value: usize,
 }
 
-// The answer of normalise and of rebuild: the lengths written, or, where a buffer is too short, the lengths needed.
-#[derive(Clone, Copy)]
-pub enum DocumentAnswer {
-    Done { metadata: usize, value: usize },
-    Short { metadata: usize, value: usize },
+// Why an operation that writes into lent buffers wrote nothing: a refusal, 1 to 8, or a buffer is too short: 9, with the
+// lengths needed.
+#[derive(Clone, Copy, Debug, PartialEq, Eq)]
+pub enum Unwritten<Lengths> {
     Refused(Refusal),
+    Short(Lengths),
 }
 
-// The answer of shred: the length written, or, where the buffer is too short, the length needed.
-#[derive(Clone, Copy)]
-pub enum RowAnswer {
-    Done(usize),
-    Short(usize),
-    Refused(Refusal),
+// A refusal is handed on as it is.
+impl<Lengths> From<Refusal> for Unwritten<Lengths> {
+    ghost from_gives = { λ refusal unwritten. unwritten ≡ Refused refusal };
+
+    fn from(refusal: Refusal) -> Unwritten<Lengths> {
+        Unwritten::Refused(refusal)
+    }
 }
+
+// The answer of normalise and of rebuild: the lengths written, or why nothing was.
+pub type DocumentAnswer = Result<DocumentLengths, Unwritten<DocumentLengths>>;
+
+// The answer of shred: the length written, or why nothing was.
+pub type RowAnswer = Result<usize, Unwritten<usize>>;
 
 // One typed cell. A float's bits cross only off a NaN in today's toolchain, so a NaN comes out as its bits.
-#[derive(Clone, Copy)]
+#[derive(Clone, Copy, Debug, PartialEq)]
 pub enum Cell {
     Boolean(bool),
     Integer(i64),
@@ -153,26 +184,11 @@ pub enum Cell {
     Uuid { first: u64, second: u64 },
 }
 
-// The answer of the cell reader.
-#[derive(Clone, Copy)]
-pub enum CellAnswer {
-    Read(Cell),
-    Refused(Refusal),
-}
-
 // A lot's box.
-#[derive(Clone, Copy)]
+#[derive(Clone, Copy, Debug, PartialEq)]
 pub struct LotBox {
     pub east: f64,
     pub north: f64,
     pub south: f64,
     pub west: f64,
-}
-
-// The answer of the box reader.
-#[derive(Clone, Copy)]
-pub enum BoxAnswer {
-    Read(LotBox),
-    Absent,
-    Refused(Refusal),
 }

@@ -1,2 +1,2 @@
--- What the finding of a path answers, in the words of 01's paths.
+-- The position of a name, and what is asked of the bytes that a path is followed in.
 pub mod Places

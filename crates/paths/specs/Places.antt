@@ -1,16 +1,9 @@
--- A child as the code answers it, the position of a name among the names of an object's fields, and lawful bytes.
+-- The position of a name among the names of an object's fields, and lawful bytes.
 use Rattle.std.specs.Prelude.{true, cond, List, [], ◌∷◌, ◌≡◌, ℕ, suc, ◌≤◌, length}
-use Rattle.std.proofs.Math.Option.{Option, none, some}
 use Rattle.paper.specs.Bounds.{most_walked}
 use Rattle.paper.specs.Words.{same, is_there}
 use Rattle.paper.specs.Metadata.{Dictionary}
-use Rattle.paper.specs.Values.{Child, meaning_of}
-use Rattle.paths.specs.declared.places.Place.{Place}
-use Rattle.paths.specs.declared.places.Place.TheVariants.{At, Nowhere}
-
-unfoldable pub place_of : Option Child → Place
-place_of none = Nowhere
-place_of (some child) = At child.start child.size
+use Rattle.paper.specs.Values.{meaning_of}
 
 -- How many names come before the first that is the given one.
 unfoldable pub position_in : List ℕ → List (List ℕ) → ℕ

@@ -7,4 +7,4 @@ mod places;
 
 pub use finding::find;
 pub use path::path_good;
-pub use places::{Place, element_at, field_at};
+pub use places::{element_at, field_at};

@@ -1,105 +1,55 @@
-// The children of a lawful container, by name and by number.
-ghost use Rattle.std.specs.Prelude.{◌≡◌, true, [], ◌*◌, ◌≤◌, ◌<◌, length, get_or};
-ghost use Rattle.paper.specs.Words.{same, numbers, all_below, is_there, and_then};
-ghost use Rattle.paper.specs.Metadata.{names_in};
-ghost use Rattle.paper.specs.Values.{area_of, starts_of, ids_of, names_at, children_at, members_of, elements_of};
+// The children of a container, by name and by number.
+ghost use Rattle.std.specs.Prelude.{◌≡◌, true, [], ◌<◌, length, get_or};
+ghost use Rattle.paper.specs.Words.{same, all_below, is_there, and_then};
+ghost use Rattle.paper.specs.Values.{names_at, children_at};
 ghost use Rattle.paper.specs.Paths.{child_named, child_number};
-ghost use Rattle.dictionary.specs.Judging.{Opened};
-ghost use Rattle.containers.specs.Layouts.{Container};
-ghost use Rattle.paths.specs.Places.{place_of, position_in};
+ghost use Rattle.paths.specs.Places.{position_in};
 
-use containers::{child_extent, layout_of};
-use dictionary::{InputId, Names, input_id_at};
-use heads::Extent;
-use order::Order;
-
-// Where a child is, as a part of the value area.
-#[derive(Clone, Copy)]
-pub enum Place {
-    At { start: usize, size: usize },
-    Nowhere,
-}
+use containers::{Container, child_extent};
+use dictionary::{Dictionary, InputId, input_id};
+use heads::Readings;
+use paper::Child;
+use runs::Run;
 
 // The name of an id is the given one.
-fn is_name(metadata: &[u8], names: Names, id: InputId, name: &[u8]) -> bool
-    requires { Opened metadata.now names × (id.0 < names.count) }
-    ensures { result ≡ same (get_or (names_in metadata.now) id.0 []) name.now }
+fn is_name(dictionary: &Dictionary, id: InputId, name: &[u8]) -> bool
+    requires { id.0 < length dictionary.now.names }
+    ensures { result ≡ same (get_or dictionary.now.names id.0 []) name.now }
 {
-    let order = order::compare(dictionary::name(metadata, names, id), name);
-    match order {
-        Order::Less => false,
-        Order::Equal => true,
-        Order::Greater => false,
-    }
+    order::compare(dictionary.name(id), name).is_eq()
 }
 
 // How many ids of a run come before the one that has a name.
-fn position_of(
-    metadata: &[u8],
-    names: Names,
-    ids: &[u8],
-    width: usize,
-    count: usize,
-    name: &[u8],
-) -> usize
-    requires { Opened metadata.now names × (count * width ≤ length ids.now) × (1 ≤ width) × (width ≤ 4) × (all_below (length (names_in metadata.now)) (numbers width count ids.now) ≡ true) }
-    ensures { result ≡ position_in name.now (names_at (names_in metadata.now) (numbers width count ids.now)) }
+fn position_of(dictionary: &Dictionary, ids: &Run, name: &[u8]) -> usize
+    requires { all_below (length dictionary.now.names) ids.now ≡ true }
+    ensures { result ≡ position_in name.now (names_at dictionary.now.names ids.now) }
 {
-    let mut place = 0;
-    let mut i = 0;
-    while i < count {
-        let id = input_id_at(ids, place, width);
-        if is_name(metadata, names, id, name) {
+    for i in 0..ids.len() {
+        if is_name(dictionary, input_id(ids, i), name) {
             return i;
         }
-        place += width;
-        i += 1;
     }
-    i
+    ids.len()
 }
 
 // The child of a number, of a container whose children have their lengths.
-fn child_at(s: &[u8], counted: usize, id: usize, width: usize, index: usize) -> Place
-    requires { Container s.now counted id width × (is_there (children_at (area_of counted id width s.now) (starts_of counted id width s.now)) ≡ true) }
-    ensures { result ≡ place_of (and_then (children_at (area_of counted id width s.now) (starts_of counted id width s.now)) (child_number index)) }
+pub fn element_at(container: &Container, index: usize) -> Option<Child>
+    requires { is_there (children_at container.now.area.now container.now.starts) ≡ true }
+    ensures { result ≡ and_then (children_at container.now.area.now container.now.starts) (child_number index) }
 {
-    let l = layout_of(s, counted, id, width);
-    if l.count <= index {
-        return Place::Nowhere;
+    if container.starts.len() <= index {
+        return None;
     }
-    let starts = l.starts;
-    let area = l.area;
-    let start = numbers::read(&s[starts..], index * width, width);
-    let readings = heads::READINGS;
-    let Extent::Size(size) = child_extent(&readings, &s[area..], start) else {
-        return Place::Nowhere;
-    };
-    Place::At { start, size }
+    let start = container.starts.get(index);
+    let readings = Readings::new();
+    let size = child_extent(&readings, container.area, start)?;
+    Some(Child { start, size })
 }
 
-// The field of a name in an object's bytes.
-pub fn field_at(
-    metadata: &[u8],
-    names: Names,
-    s: &[u8],
-    counted: usize,
-    id: usize,
-    width: usize,
-    name: &[u8],
-) -> Place
-    requires { Opened metadata.now names × Container s.now counted id width × (1 ≤ id) × (is_there (members_of (names_in metadata.now) counted id width s.now) ≡ true) }
-    ensures { result ≡ place_of (and_then (members_of (names_in metadata.now) counted id width s.now) (child_named name.now (names_at (names_in metadata.now) (ids_of counted id s.now)))) }
+// The field of a name in an object, which has an id for each child.
+pub fn field_at(dictionary: &Dictionary, object: &Container, name: &[u8]) -> Option<Child>
+    requires { (is_there (children_at object.now.area.now object.now.starts) ≡ true) × (all_below (length dictionary.now.names) object.now.ids ≡ true) × (length object.now.ids ≡ length object.now.starts) }
+    ensures { result ≡ and_then (children_at object.now.area.now object.now.starts) (child_named name.now (names_at dictionary.now.names object.now.ids)) }
 {
-    let l = layout_of(s, counted, id, width);
-    let ids = 1 + counted;
-    let index = position_of(metadata, names, &s[ids..], id, l.count, name);
-    child_at(s, counted, id, width, index)
-}
-
-// The element of a number in an array's bytes.
-pub fn element_at(s: &[u8], counted: usize, width: usize, index: usize) -> Place
-    requires { Container s.now counted 0 width × (is_there (elements_of counted width s.now) ≡ true) }
-    ensures { result ≡ place_of (and_then (elements_of counted width s.now) (child_number index)) }
-{
-    child_at(s, counted, 0, width, index)
+    element_at(object, position_of(dictionary, &object.ids, name))
 }

@@ -1,16 +1,14 @@
 -- A row of two frames: what its splitting tells, and what the row comes to by its two halves.
+use Rattle.std.specs.Prelude.{Option, None, Some}
 use mathlib.Core.Bool.{◌&&◌}
 use mathlib.Core.List.{List, [], ◌∷◌}
-use mathlib.Core.Option.{Option, none, some}
 use mathlib.Core.Path.{◌≡◌, refl, sym, ◌∙◌}
 use Prim.Native.Nat.{ℕ, ◌+◌, ◌-◌, ◌≤◌, ◌<◌}
 use native.Mathlib.Omega.{arith}
 use borrow.Author.Tests.{ne_eqb, le-leb, lt-leb}
 use lib.Dec.{leb, eqb}
 use lib.ListN.{length, take, drop, length-take, length-drop}
-use Rattle.frames.specs.Frames.{frame_end, frame_by, frame_at, piece_in}
-use Rattle.frames.specs.declared.Frame.TheVariants.{Ends, Cut}
-use Rattle.frames.specs.declared.Frame.{Frame}
+use Rattle.frames.specs.Frames.{frame_end, piece_in}
 use Rattle.paper.specs.Framing.{Piece, pieces_of}
 use Rattle.paper.specs.Limits.{most_metadata, most_levels}
 use Rattle.paper.specs.Metadata.{Dictionary, dictionary_of}
@@ -21,54 +19,54 @@ use Rattle.paper.specs.Words.{at, part, given, and_then}
 use Rattle.frames.proofs.FrameLaws.{pieces_by, pieces_at, pieces_ended, frame_cut, frame_ends, frame_fits, two_frames}
 use Rattle.places.proofs.PartLaws.{ends, pieces_first, pieces_second, two_pieces, some_piece}
 use Rattle.places.proofs.VerdictLaws.{place_under_lem}
-use Rattle.places.specs.Halves.{middle_in, middle_of, halves_of}
+use Rattle.places.specs.Halves.{middle_in, middle_of}
 use Rattle.places.specs.Verdicts.{verdict_of, place_verdict, row_verdict}
 use Rattle.places.specs.declared.verdicts.Verdict.TheVariants.{Unparsed}
 
 -- ---- for the code
 
-pub halves_none : (s : List ℕ) → length s ≡ 0 → Cut ≡ halves_of s
-unfolding halves_of middle_of middle_in frame_by and_then
-halves_none s e = let none_left : pieces_of s ≡ some [] = pieces_ended s 0 (omega arith) in rw none_left
+pub halves_none : (s : List ℕ) → length s ≡ 0 → None ≡ middle_of s
+unfolding middle_of middle_in and_then
+halves_none s e = let none_left : pieces_of s ≡ Some [] = pieces_ended s 0 (omega arith) in rw none_left
 
-module _ (s : List ℕ) (some_bytes : length s ≡ 0 → ⊥) (r : Frame) (told : r ≡ frame_at s 0) where
-  pub halves_cut : r ≡ Cut → Cut ≡ halves_of s
-  unfolding halves_of middle_of frame_by and_then pieces_by
-  halves_cut e = let are : pieces_of s ≡ none = pieces_at s 0 (omega arith) ∙ rw (frame_cut s 0 r told e) in rw are
+module _ (s : List ℕ) (some_bytes : length s ≡ 0 → ⊥) (r : Option ℕ) (told : r ≡ frame_end s 0) where
+  pub halves_cut : r ≡ None → None ≡ middle_of s
+  unfolding middle_of and_then pieces_by
+  halves_cut e = let are : pieces_of s ≡ None = pieces_at s 0 (omega arith) ∙ rw (frame_cut s 0 r told e) in rw are
 
-  module _ (middle : ℕ) (e : r ≡ Ends middle) where
-    pub half_ends : frame_end s 0 ≡ some middle
+  module _ (middle : ℕ) (e : r ≡ Some middle) where
+    pub half_ends : frame_end s 0 ≡ Some middle
     half_ends = frame_ends s 0 middle r told e
 
-    pub halves_one : length s ≤ middle → Cut ≡ halves_of s
-    unfolding halves_of middle_of middle_in frame_by and_then
+    pub halves_one : length s ≤ middle → None ≡ middle_of s
+    unfolding middle_of middle_in and_then
     halves_one all =
-        let none_left : pieces_of (drop middle s) ≡ some [] = pieces_ended s middle all in
-        let are : pieces_of s ≡ some (piece_in s 0 middle ∷ []) = pieces_first s middle half_ends ∙ rw none_left in
+        let none_left : pieces_of (drop middle s) ≡ Some [] = pieces_ended s middle all in
+        let are : pieces_of s ≡ Some (piece_in s 0 middle ∷ []) = pieces_first s middle half_ends ∙ rw none_left in
         rw are
 
-module _ (s : List ℕ) (middle : ℕ) (first : frame_end s 0 ≡ some middle) (more : middle < length s) (r : Frame) (told : r ≡ frame_at s middle) where
-  pub second_half_cut : r ≡ Cut → Cut ≡ halves_of s
-  unfolding halves_of middle_of frame_by and_then pieces_by
+module _ (s : List ℕ) (middle : ℕ) (first : frame_end s 0 ≡ Some middle) (more : middle < length s) (r : Option ℕ) (told : r ≡ frame_end s middle) where
+  pub second_half_cut : r ≡ None → None ≡ middle_of s
+  unfolding middle_of and_then pieces_by
   second_half_cut e =
-      let behind : pieces_of (drop middle s) ≡ none = pieces_at s middle more ∙ rw (frame_cut s middle r told e) in
+      let behind : pieces_of (drop middle s) ≡ None = pieces_at s middle more ∙ rw (frame_cut s middle r told e) in
       rw (pieces_first s middle first, behind)
 
-  module _ (last : ℕ) (e : r ≡ Ends last) where
-    second_ends : frame_end s middle ≡ some last
+  module _ (last : ℕ) (e : r ≡ Some last) where
+    second_ends : frame_end s middle ≡ Some last
     second_ends = frame_ends s middle last r told e
 
-    pub third_half : last < length s → Cut ≡ halves_of s
-    unfolding halves_of middle_of middle_in frame_by and_then
+    pub third_half : last < length s → None ≡ middle_of s
+    unfolding middle_of middle_in and_then
     third_half h = go (pieces_of (drop last s)) refl
       where
-        go : (x : Option (List Piece)) → pieces_of (drop last s) ≡ x → Cut ≡ frame_by (and_then (pieces_of s) middle_in)
-        go none f = rw (pieces_second s middle first more last second_ends, f)
-        go (some []) f = absurd (some_piece s last h f)
-        go (some (third ∷ rest)) f = rw (pieces_second s middle first more last second_ends, f)
+        go : (x : Option (List Piece)) → pieces_of (drop last s) ≡ x → None ≡ and_then (pieces_of s) middle_in
+        go None f = rw (pieces_second s middle first more last second_ends, f)
+        go (Some []) f = absurd (some_piece s last h f)
+        go (Some (third ∷ rest)) f = rw (pieces_second s middle first more last second_ends, f)
 
-    pub both_halves : length s ≤ last → Ends middle ≡ halves_of s
-    unfolding halves_of middle_of middle_in frame_by and_then
+    pub both_halves : length s ≤ last → Some middle ≡ middle_of s
+    unfolding middle_of middle_in and_then
     both_halves all =
         let fits = frame_fits s middle last second_ends in
         let whole : last ≡ length s = omega arith in
@@ -79,20 +77,20 @@ module _ (s : List ℕ) (middle : ℕ) (first : frame_end s 0 ≡ some middle) (
 -- ---- what the halves tell of a row
 
 pub record Halves (s : List ℕ) (middle : ℕ) : Type 0 where
-  pub pieces : pieces_of s ≡ some (piece_in s 0 middle ∷ piece_in s middle (length s) ∷ [])
+  pub pieces : pieces_of s ≡ Some (piece_in s 0 middle ∷ piece_in s middle (length s) ∷ [])
   pub first_long : 3 ≤ middle
   pub second_long : middle + 3 ≤ length s
 
-module _ (s : List ℕ) (r : Frame) (told : r ≡ halves_of s) where
-  pub halved : (middle : ℕ) → r ≡ Ends middle → Halves s middle
-  unfolding halves_of middle_of middle_in frame_by and_then
+module _ (s : List ℕ) (r : Option ℕ) (told : r ≡ middle_of s) where
+  pub halved : (middle : ℕ) → r ≡ Some middle → Halves s middle
+  unfolding middle_of middle_in and_then
   halved middle e = go (pieces_of s) refl (sym told ∙ e)
     where
-      go : (x : Option (List Piece)) → pieces_of s ≡ x → frame_by (and_then x middle_in) ≡ Ends middle → Halves s middle
-      go none f g = absurd (let z : ◌≡◌ {A = ℕ} 0 1 = cc in omega arith)
-      go (some []) f g = absurd (let z : ◌≡◌ {A = ℕ} 0 1 = cc in omega arith)
-      go (some (first ∷ [])) f g = absurd (let z : ◌≡◌ {A = ℕ} 0 1 = cc in omega arith)
-      go (some (first ∷ second ∷ [])) f g =
+      go : (x : Option (List Piece)) → pieces_of s ≡ x → and_then x middle_in ≡ Some middle → Halves s middle
+      go None f g = absurd (let z : ◌≡◌ {A = ℕ} 0 1 = cc in omega arith)
+      go (Some []) f g = absurd (let z : ◌≡◌ {A = ℕ} 0 1 = cc in omega arith)
+      go (Some (first ∷ [])) f g = absurd (let z : ◌≡◌ {A = ℕ} 0 1 = cc in omega arith)
+      go (Some (first ∷ second ∷ [])) f g =
           let two = two_frames s first second f in
           let same : 3 + length first.body ≡ middle = cc in
           let is : two.end ≡ middle = sym two.size ∙ same in
@@ -101,18 +99,18 @@ module _ (s : List ℕ) (r : Frame) (told : r ≡ halves_of s) where
             first_long = rw (← is) two.first_long;
             second_long = rw (← is) two.second_long;
           }
-      go (some (first ∷ second ∷ third ∷ more)) f g = absurd (let z : ◌≡◌ {A = ℕ} 0 1 = cc in omega arith)
+      go (Some (first ∷ second ∷ third ∷ more)) f g = absurd (let z : ◌≡◌ {A = ℕ} 0 1 = cc in omega arith)
 
-  pub unhalved : r ≡ Cut → (schema : Schema) → Unparsed ≡ row_verdict schema s
-  unfolding halves_of middle_of middle_in frame_by and_then row_verdict row_of row_parts verdict_of
+  pub unhalved : r ≡ None → (schema : Schema) → Unparsed ≡ row_verdict schema s
+  unfolding middle_of middle_in and_then row_verdict row_of row_parts verdict_of
   unhalved e schema = go (pieces_of s) refl (sym told ∙ e)
     where
-      go : (x : Option (List Piece)) → pieces_of s ≡ x → frame_by (and_then x middle_in) ≡ Cut → Unparsed ≡ verdict_of (and_then (pieces_of s) λ pieces. row_parts schema pieces) (row_lawful schema)
-      go none f g = rw f
-      go (some []) f g = rw f
-      go (some (first ∷ [])) f g = rw f
-      go (some (first ∷ second ∷ [])) f g = absurd (let z : ◌≡◌ {A = ℕ} 0 1 = cc in omega arith)
-      go (some (first ∷ second ∷ third ∷ more)) f g = rw f
+      go : (x : Option (List Piece)) → pieces_of s ≡ x → and_then x middle_in ≡ None → Unparsed ≡ verdict_of (and_then (pieces_of s) λ pieces. row_parts schema pieces) (row_lawful schema)
+      go None f g = rw f
+      go (Some []) f g = rw f
+      go (Some (first ∷ [])) f g = rw f
+      go (Some (first ∷ second ∷ [])) f g = absurd (let z : ◌≡◌ {A = ℕ} 0 1 = cc in omega arith)
+      go (Some (first ∷ second ∷ third ∷ more)) f g = rw f
 
 -- ---- what a row comes to, test by test
 
@@ -125,7 +123,7 @@ module _ (schema : Schema) (s : List ℕ) (middle : ℕ) (h : Halves s middle) w
 
   by_halves : row_verdict schema s
       ≡ verdict_of (given (eqb (at s 0) 0x40 && leb (length Metadata) most_metadata)
-      (and_then (dictionary_of Metadata) λ names. and_then (place_under schema most_levels names (piece_in s middle (length s))) λ p. some (record { names = names; outermost = p })))
+      (and_then (dictionary_of Metadata) λ names. and_then (place_under schema most_levels names (piece_in s middle (length s))) λ p. Some (record { names = names; outermost = p })))
       (row_lawful schema)
   unfolding row_verdict row_of row_parts and_then
   by_halves = rw h.pieces
@@ -141,18 +139,18 @@ module _ (schema : Schema) (s : List ℕ) (middle : ℕ) (h : Halves s middle) w
 
     module _ (short : middle - 3 ≤ most_metadata) where
       by_dictionary : row_verdict schema s
-          ≡ verdict_of (and_then (dictionary_of Metadata) λ names. and_then (place_under schema most_levels names (piece_in s middle (length s))) λ p. some (record { names = names; outermost = p }))
+          ≡ verdict_of (and_then (dictionary_of Metadata) λ names. and_then (place_under schema most_levels names (piece_in s middle (length s))) λ p. Some (record { names = names; outermost = p }))
           (row_lawful schema)
       unfolding given
       by_dictionary = by_halves ∙ rw (tag, metadata_size, le-leb (middle - 3) most_metadata short)
 
-      pub row_bad_metadata : dictionary_of Metadata ≡ none → Unparsed ≡ row_verdict schema s
+      pub row_bad_metadata : dictionary_of Metadata ≡ None → Unparsed ≡ row_verdict schema s
       unfolding and_then verdict_of
       row_bad_metadata e = sym (by_dictionary ∙ rw e)
 
-      module _ (names : Dictionary) (read : dictionary_of Metadata ≡ some names) where
+      module _ (names : Dictionary) (read : dictionary_of Metadata ≡ Some names) where
         by_place : row_verdict schema s
-            ≡ verdict_of (and_then (place_under schema most_levels names (piece_in s middle (length s))) λ p. some (record { names = names; outermost = p })) (row_lawful schema)
+            ≡ verdict_of (and_then (place_under schema most_levels names (piece_in s middle (length s))) λ p. Some (record { names = names; outermost = p })) (row_lawful schema)
         unfolding and_then
         by_place = by_dictionary ∙ rw read
 
@@ -164,6 +162,6 @@ module _ (schema : Schema) (s : List ℕ) (middle : ℕ) (h : Halves s middle) w
         unfolding place_verdict
         row_place e = sym (by_place ∙ rw e (go (place_under schema most_levels names (record { tag = 0x50; body = part s (middle + 3) (length s) }))))
           where
-            go : (x : Option Place) → verdict_of (and_then x λ p. some (record { names = names; outermost = p })) (row_lawful schema) ≡ verdict_of x (place_lawful schema names)
-            go none = unfold verdict_of in unfold and_then in refl
-            go (some p) = unfold verdict_of in unfold and_then in unfold row_lawful in refl
+            go : (x : Option Place) → verdict_of (and_then x λ p. Some (record { names = names; outermost = p })) (row_lawful schema) ≡ verdict_of x (place_lawful schema names)
+            go None = unfold verdict_of in unfold and_then in refl
+            go (Some p) = unfold verdict_of in unfold and_then in unfold row_lawful in refl

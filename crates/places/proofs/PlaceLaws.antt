@@ -1,7 +1,7 @@
 -- A place by its parts: what it comes to, from its leftover and from what is typed in it.
+use Rattle.std.specs.Prelude.{Option, None, Some}
 use mathlib.Core.Bool.{Bool, true, false, cond, not, ◌&&◌, ◌||◌}
 use mathlib.Core.List.{List, [], ◌∷◌}
-use mathlib.Core.Option.{Option, none, some}
 use mathlib.Core.Path.{◌≡◌, refl, sym, ap, subst, ◌∙◌}
 use Prim.Native.Nat.{ℕ, ◌+◌, ◌≤◌}
 use native.Mathlib.Omega.{arith}
@@ -30,14 +30,14 @@ use Rattle.places.specs.declared.verdicts.Verdict.TheVariants.{Lawful, Broken, U
 -- One piece of a tag fills the body.
 pub record OnePiece (body : List ℕ) (tag : ℕ) : Type 0 where
   pub tagged : at body 0 ≡ tag
-  pub pieces : pieces_of body ≡ some (piece_in body 0 (length body) ∷ [])
+  pub pieces : pieces_of body ≡ Some (piece_in body 0 (length body) ∷ [])
   pub long : 3 ≤ length body
 
 -- A leftover's piece up to a place, and behind it one of something typed.
 pub record TwoPieces (body : List ℕ) (end : ℕ) : Type 0 where
   pub first_tag : at body 0 ≡ 0x41
   pub second_tag : at body end ≡ 0x42
-  pub pieces : pieces_of body ≡ some (piece_in body 0 end ∷ piece_in body end (length body) ∷ [])
+  pub pieces : pieces_of body ≡ Some (piece_in body 0 end ∷ piece_in body end (length body) ∷ [])
   pub first_long : 3 ≤ end
   pub second_long : end + 3 ≤ length body
 
@@ -47,10 +47,10 @@ Told body Empty = length body ≡ 0
 Told body Leftover = OnePiece body 0x41
 Told body TypedPart = OnePiece body 0x42
 Told body (Both end) = TwoPieces body end
-Told body Unframed = (left : List ℕ → Option Doc) (right : List ℕ → Option Typed) → and_then (pieces_of body) (place_parts left right) ≡ none
+Told body Unframed = (left : List ℕ → Option Doc) (right : List ℕ → Option Typed) → and_then (pieces_of body) (place_parts left right) ≡ None
 
 module _ (body : List ℕ) where
-  told_one : (first : Piece) → pieces_of body ≡ some (first ∷ []) → Told body (part_by first.tag)
+  told_one : (first : Piece) → pieces_of body ≡ Some (first ∷ []) → Told body (part_by first.tag)
   unfolding part_by
   told_one first e = go (eqb first.tag 0x41) refl (eqb first.tag 0x42) refl
     where
@@ -61,7 +61,7 @@ module _ (body : List ℕ) where
       one tag g =
           record {
             tagged = ap (λ (p : Piece). p.tag) (sym f.is) ∙ g;
-            pieces = e ∙ ap (λ (p : Piece). some (p ∷ [])) f.is;
+            pieces = e ∙ ap (λ (p : Piece). Some (p ∷ [])) f.is;
             long = f.long;
           }
 
@@ -70,7 +70,7 @@ module _ (body : List ℕ) where
       go false g true h = one 0x42 (eqb-true first.tag 0x42 h)
       go false g false h = λ left right. unfold and_then in unfold place_parts in unfold given in rw (e, g, h)
 
-  told_two : (first second : Piece) → pieces_of body ≡ some (first ∷ second ∷ [])
+  told_two : (first second : Piece) → pieces_of body ≡ Some (first ∷ second ∷ [])
       → Told body (cond (eqb first.tag 0x41 && eqb second.tag 0x42) (Both (3 + length first.body)) Unframed)
   told_two first second e = go (eqb first.tag 0x41) refl (eqb second.tag 0x42) refl
     where
@@ -97,11 +97,11 @@ module _ (body : List ℕ) where
   told = go (pieces_of body) refl
     where
       go : (x : Option (List Piece)) → pieces_of body ≡ x → Told body (parts_by x)
-      go none e = λ left right. unfold and_then in rw e
-      go (some []) e = let over = pieces_end_is body 0 e in omega arith
-      go (some (first ∷ [])) e = told_one first e
-      go (some (first ∷ second ∷ [])) e = told_two first second e
-      go (some (first ∷ second ∷ third ∷ more)) e = λ left right. unfold and_then in unfold place_parts in rw e
+      go None e = λ left right. unfold and_then in rw e
+      go (Some []) e = let over = pieces_end_is body 0 e in omega arith
+      go (Some (first ∷ [])) e = told_one first e
+      go (Some (first ∷ second ∷ [])) e = told_two first second e
+      go (Some (first ∷ second ∷ third ∷ more)) e = λ left right. unfold and_then in unfold place_parts in rw e
 
 -- ---- what a place comes to
 
@@ -158,17 +158,17 @@ module _ (node : Schema) (levels : ℕ) (names : Dictionary) (body : List ℕ) w
       kept true = refl
       kept false = refl
 
-      go : (x : Option Doc) → verdict_of (and_then x λ d. some (leftover d)) (place_lawful_by node (typed_lawful node names)) ≡ with_left x λ d. broken_if (left_broken node d) Lawful
-      go none = refl
-      go (some d) = rw (left_lawful node (typed_lawful node names) d) (kept (left_broken node d))
+      go : (x : Option Doc) → verdict_of (and_then x λ d. Some (leftover d)) (place_lawful_by node (typed_lawful node names)) ≡ with_left x λ d. broken_if (left_broken node d) Lawful
+      go None = refl
+      go (Some d) = rw (left_lawful node (typed_lawful node names) d) (kept (left_broken node d))
 
   pub place_typed : Told body TypedPart → place_verdict node levels names body ≡ typed_verdict node levels names (part body 3 (length body))
   unfolding and_then place_parts left right verdict_of typed_verdict given
   place_typed told = by_parts ∙ rw (told.pieces, told.tagged) (go (typed_under node levels names (part body 3 (length body))))
     where
-      go : (x : Option Typed) → verdict_of (and_then x λ t. some (typed t)) (place_lawful_by node (typed_lawful node names)) ≡ verdict_of x (typed_lawful node names)
-      go none = refl
-      go (some t) = rw (typed_lawful_lem node (typed_lawful node names) t)
+      go : (x : Option Typed) → verdict_of (and_then x λ t. Some (typed t)) (place_lawful_by node (typed_lawful node names)) ≡ verdict_of x (typed_lawful node names)
+      go None = refl
+      go (Some t) = rw (typed_lawful_lem node (typed_lawful node names) t)
 
   pub place_both : (end : ℕ) → Told body (Both end)
       → place_verdict node levels names body
@@ -188,11 +188,11 @@ module _ (node : Schema) (levels : ℕ) (names : Dictionary) (body : List ℕ) w
       unread true = refl
       unread false = refl
 
-      go : (x : Option Doc) (y : Option Typed) → verdict_of (and_then x λ d. and_then y λ t. some (both d t)) (place_lawful_by node (typed_lawful node names))
+      go : (x : Option Doc) (y : Option Typed) → verdict_of (and_then x λ d. and_then y λ t. Some (both d t)) (place_lawful_by node (typed_lawful node names))
           ≡ with_left x λ d. broken_if (beside_broken node d) (verdict_of y (typed_lawful node names))
-      go none y = refl
-      go (some d) none = unread (beside_broken node d)
-      go (some d) (some t) = rw (both_lawful node (typed_lawful node names) d t) (kept (beside_broken node d) (typed_lawful node names t))
+      go None y = refl
+      go (Some d) None = unread (beside_broken node d)
+      go (Some d) (Some t) = rw (both_lawful node (typed_lawful node names) d t) (kept (beside_broken node d) (typed_lawful node names t))
 
 -- ---- for the walker: by the parts that it was told
 

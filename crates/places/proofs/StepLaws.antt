@@ -1,16 +1,14 @@
 -- Inner places one at a time: the verdict of those from a position on, by the first of them and those behind it.
+use Rattle.std.specs.Prelude.{Option, None, Some}
 use mathlib.Core.Bool.{Bool, true, false, cond, not, ◌&&◌, ◌||◌}
 use mathlib.Core.List.{List, ◌∷◌}
-use mathlib.Core.Option.{Option, none, some}
 use mathlib.Core.Path.{◌≡◌, refl, sym, ap, ◌∙◌}
 use Prim.Native.Nat.{ℕ, ◌+◌, ◌-◌, ◌≤◌, ◌<◌}
 use native.Mathlib.Omega.{arith}
 use borrow.Author.Tests.{eq-eqb, ne_eqb, eqb-true, eqb-false}
 use lib.Dec.{eqb}
 use lib.ListN.{length, drop, length-take, length-drop}
-use Rattle.frames.specs.Frames.{frame_end, frame_by, frame_at, piece_in}
-use Rattle.frames.specs.declared.Frame.TheVariants.{Ends, Cut}
-use Rattle.frames.specs.declared.Frame.{Frame}
+use Rattle.frames.specs.Frames.{frame_end, piece_in}
 use Rattle.paper.specs.Framing.{Piece, pieces_of}
 use Rattle.paper.specs.Meaning.{Doc}
 use Rattle.paper.specs.Metadata.{Dictionary}
@@ -22,7 +20,7 @@ use Rattle.frames.proofs.FrameLaws.{by_cut, by_ends, pieces_by, pieces_at, piece
 use Rattle.paper.proofs.WordLaws.{never, given_some, then_some, some_there}
 use Rattle.places.proofs.PlaceLaws.{Told, told}
 use Rattle.places.proofs.VerdictLaws.{place_under_lem, worse_unparsed, list_step, fields_step}
-use Rattle.places.specs.Frames.{place_end, place_frame}
+use Rattle.places.specs.Frames.{place_end}
 use Rattle.places.specs.Parts.{parts_of}
 use Rattle.places.specs.Verdicts.{verdict_of, typed_under, place_verdict, elements_verdict, members_verdict, worse, broken_if}
 use Rattle.places.specs.declared.parts.Parts.TheVariants.{Empty, Leftover, Typed as TypedPart, Both, Unframed}
@@ -36,12 +34,12 @@ unfoldable pub present : Place → Bool
 present p = has_leftover p || has_typed p
 
 -- Where a test of what is there always comes to the same.
-verdict_by : {A : Type 0} (x : Option A) (broken : A → Bool) (b : Bool) (keeps : A → Bool) → ((a : A) → x ≡ some a → broken a ≡ b)
+verdict_by : {A : Type 0} (x : Option A) (broken : A → Bool) (b : Bool) (keeps : A → Bool) → ((a : A) → x ≡ Some a → broken a ≡ b)
     → verdict_of x (λ a. not (broken a) && keeps a) ≡ broken_if b (verdict_of x keeps)
 unfolding verdict_of
-verdict_by none broken true keeps always = refl
-verdict_by none broken false keeps always = refl
-verdict_by (some a) broken b keeps always = rw (always a refl) (go b (keeps a))
+verdict_by None broken true keeps always = refl
+verdict_by None broken false keeps always = refl
+verdict_by (Some a) broken b keeps always = rw (always a refl) (go b (keeps a))
   where
     go : (b c : Bool) → cond (not b && c) Lawful Broken ≡ broken_if b (cond c Lawful Broken)
     go true true = refl
@@ -56,20 +54,20 @@ module _ (node : Schema) (levels : ℕ) (names : Dictionary) (body : List ℕ) w
   unfolding place_within place_by given
   held_by = rw (place_under_lem node levels names)
 
-  pub place_present : (p : Place) → Held ≡ some p → present p ≡ not (eqb (length body) 0)
+  pub place_present : (p : Place) → Held ≡ Some p → present p ≡ not (eqb (length body) 0)
   unfolding and_then place_parts given present has_leftover has_typed is_there
   place_present p e = go (parts_of body) (told body)
     where
-      there : and_then (pieces_of body) (place_parts (leftover_meaning levels names) (typed_under node levels names)) ≡ some p
+      there : and_then (pieces_of body) (place_parts (leftover_meaning levels names) (typed_under node levels names)) ≡ Some p
       there = sym held_by ∙ e
 
-      from_left : (x : Option Doc) → and_then x (λ d. some (leftover d)) ≡ some p → present p ≡ true
+      from_left : (x : Option Doc) → and_then x (λ d. Some (leftover d)) ≡ Some p → present p ≡ true
       from_left x f = let got = then_some x _ f in let is = got.2 in let same : leftover got.0 ≡ p = cc in rw (← same)
 
-      from_typed : (x : Option Typed) → and_then x (λ t. some (typed t)) ≡ some p → present p ≡ true
+      from_typed : (x : Option Typed) → and_then x (λ t. Some (typed t)) ≡ Some p → present p ≡ true
       from_typed x f = let got = then_some x _ f in let is = got.2 in let same : typed got.0 ≡ p = cc in rw (← same)
 
-      from_both : (x : Option Doc) (y : Option Typed) → and_then x (λ d. and_then y λ t. some (both d t)) ≡ some p → present p ≡ true
+      from_both : (x : Option Doc) (y : Option Typed) → and_then x (λ d. and_then y λ t. Some (both d t)) ≡ Some p → present p ≡ true
       from_both x y f =
           let got = then_some x _ f in
           let also = then_some y _ got.2 in
@@ -82,7 +80,7 @@ module _ (node : Schema) (levels : ℕ) (names : Dictionary) (body : List ℕ) w
 
       go : (parts : Parts) → Told body parts → present p ≡ not (eqb (length body) 0)
       go Empty none_left =
-          let is : some empty ≡ some p = sym (rw (pieces_ended body 0 (omega arith))) ∙ there in
+          let is : Some empty ≡ Some p = sym (rw (pieces_ended body 0 (omega arith))) ∙ there in
           let same : empty ≡ p = cc in
           rw (← same, none_left)
       go Leftover t = from_left (leftover_meaning levels names (part body 3 (length body))) (rw (t.pieces, t.tagged) at there) ∙ long t.long
@@ -90,7 +88,7 @@ module _ (node : Schema) (levels : ℕ) (names : Dictionary) (body : List ℕ) w
       go (Both end) t =
           let behind = t.second_long in
           from_both (leftover_meaning levels names (part body 3 end)) (typed_under node levels names (part body (end + 3) (length body))) (rw (t.pieces, t.first_tag, t.second_tag) at there) ∙ long (omega arith)
-      go Unframed t = never (sym (some_there none (sym (t (leftover_meaning levels names) (typed_under node levels names)) ∙ there)))
+      go Unframed t = never (sym (some_there None (sym (t (leftover_meaning levels names) (typed_under node levels names)) ∙ there)))
 
   -- Rule e of a list's element.
   pub element_verdict : verdict_of Held (λ p. not (breaks_e p) && place_lawful node names p) ≡ broken_if (eqb (length body) 0) (place_verdict node levels names body)
@@ -114,24 +112,24 @@ module _ (node : Schema) (levels : ℕ) (names : Dictionary) (body : List ℕ) w
 -- ---- from a position on
 
 -- What the code is told of an inner place's frame.
-pub place_cut : (s : List ℕ) (place : ℕ) (r : Frame) → r ≡ place_frame s place → r ≡ Cut → place_end s place ≡ none
-unfolding place_frame
+pub place_cut : (s : List ℕ) (place : ℕ) (r : Option ℕ) → r ≡ place_end s place → r ≡ None → place_end s place ≡ None
+unfolding place_end
 place_cut s place r is e = by_cut (place_end s place) (sym is ∙ e)
 
-pub place_ends : (s : List ℕ) (place end : ℕ) (r : Frame) → r ≡ place_frame s place → r ≡ Ends end → place_end s place ≡ some end
-unfolding place_frame
+pub place_ends : (s : List ℕ) (place end : ℕ) (r : Option ℕ) → r ≡ place_end s place → r ≡ Some end → place_end s place ≡ Some end
+unfolding place_end
 place_ends s place end r is e = by_ends (place_end s place) (sym is ∙ e)
 
-pub place_fits : (s : List ℕ) (place end : ℕ) → place_end s place ≡ some end → (place + 3 ≤ end) × (end ≤ length s)
+pub place_fits : (s : List ℕ) (place end : ℕ) → place_end s place ≡ Some end → (place + 3 ≤ end) × (end ≤ length s)
 unfolding place_end
 place_fits s place end e = frame_fits s place end (given_some (eqb (at s place) 0x50) (frame_end s place) e).1
 
-pub place_other : (s : List ℕ) (place : ℕ) → (at s place ≡ 0x50 → ⊥) → Cut ≡ place_frame s place
-unfolding place_frame place_end frame_by given
+pub place_other : (s : List ℕ) (place : ℕ) → (at s place ≡ 0x50 → ⊥) → None ≡ place_end s place
+unfolding place_end given
 place_other s place other = rw (ne_eqb (at s place) 0x50 other)
 
-pub place_framed : (s : List ℕ) (place : ℕ) → at s place ≡ 0x50 → (r : Frame) → r ≡ frame_at s place → r ≡ place_frame s place
-unfolding place_frame place_end frame_at given
+pub place_framed : (s : List ℕ) (place : ℕ) → at s place ≡ 0x50 → (r : Option ℕ) → r ≡ frame_end s place → r ≡ place_end s place
+unfolding place_end frame_end given
 place_framed s place e r is = is ∙ rw e
 
 module _ (s : List ℕ) (place : ℕ) (h : place < length s) {A : Type 0} (read : List Piece → Option A) (keeps : A → Bool) where
@@ -139,33 +137,33 @@ module _ (s : List ℕ) (place : ℕ) (h : place < length s) {A : Type 0} (read 
   From p = verdict_of (and_then (pieces_of (drop p s)) read) keeps
 
   -- a frame that does not fit
-  from_cut : frame_end s place ≡ none → From place ≡ Unparsed
+  from_cut : frame_end s place ≡ None → From place ≡ Unparsed
   unfolding pieces_by and_then verdict_of
   from_cut e = rw (pieces_at s place h, e)
 
   -- a frame that fits, and how its piece goes together with those behind it
-  from_next : (end : ℕ) → frame_end s place ≡ some end → (one : Verdict) (others : List Piece → Option A) (also : A → Bool)
+  from_next : (end : ℕ) → frame_end s place ≡ Some end → (one : Verdict) (others : List Piece → Option A) (also : A → Bool)
       → ((more : List Piece) → verdict_of (read (piece_in s place end ∷ more)) keeps ≡ worse one (verdict_of (others more) also))
       → From place ≡ worse one (verdict_of (and_then (pieces_of (drop end s)) others) also)
   unfolding pieces_by and_then
   from_next end e one others also split = rw (pieces_at s place h, e) (go (pieces_of (drop end s)))
     where
       go : (x : Option (List Piece))
-          → verdict_of (and_then (and_then x λ more. some (piece_in s place end ∷ more)) read) keeps ≡ worse one (verdict_of (and_then x others) also)
-      go none = unfold verdict_of in sym (worse_unparsed one)
-      go (some more) = split more
+          → verdict_of (and_then (and_then x λ more. Some (piece_in s place end ∷ more)) read) keeps ≡ worse one (verdict_of (and_then x others) also)
+      go None = unfold verdict_of in sym (worse_unparsed one)
+      go (Some more) = split more
 
   -- a piece that does not read
-  from_unread : (end : ℕ) → frame_end s place ≡ some end → ((more : List Piece) → read (piece_in s place end ∷ more) ≡ none) → From place ≡ Unparsed
+  from_unread : (end : ℕ) → frame_end s place ≡ Some end → ((more : List Piece) → read (piece_in s place end ∷ more) ≡ None) → From place ≡ Unparsed
   unfolding pieces_by and_then verdict_of
   from_unread end e unread = rw (pieces_at s place h, e) (go (pieces_of (drop end s)))
     where
-      go : (x : Option (List Piece)) → verdict_of (and_then (and_then x λ more. some (piece_in s place end ∷ more)) read) keeps ≡ Unparsed
-      go none = refl
-      go (some more) = rw (unread more)
+      go : (x : Option (List Piece)) → verdict_of (and_then (and_then x λ more. Some (piece_in s place end ∷ more)) read) keeps ≡ Unparsed
+      go None = refl
+      go (Some more) = rw (unread more)
 
 -- A piece of another tag is no place.
-other_tag : (node : Schema) (levels : ℕ) (names : Dictionary) (piece : Piece) → (piece.tag ≡ 0x50 → ⊥) → place_under node levels names piece ≡ none
+other_tag : (node : Schema) (levels : ℕ) (names : Dictionary) (piece : Piece) → (piece.tag ≡ 0x50 → ⊥) → place_under node levels names piece ≡ None
 unfolding place_within place_by given
 other_tag node levels names piece other = rw (place_under_lem node levels names, ne_eqb piece.tag 0x50 other)
 
@@ -191,19 +189,19 @@ module _ (element : Schema) (levels : ℕ) (names : Dictionary) (s : List ℕ) w
   elements_ended place h = rw (pieces_ended s place h)
 
   module _ (place : ℕ) (h : place < length s) where
-    pub elements_cut : place_end s place ≡ none → elements_verdict element levels names (drop place s) ≡ Unparsed
+    pub elements_cut : place_end s place ≡ None → elements_verdict element levels names (drop place s) ≡ Unparsed
     unfolding elements_verdict place_end given
     elements_cut e = go (eqb (at s place) 0x50) refl (frame_end s place) refl e
       where
-        go : (b : Bool) → eqb (at s place) 0x50 ≡ b → (x : Option ℕ) → frame_end s place ≡ x → given b x ≡ none
+        go : (b : Bool) → eqb (at s place) 0x50 ≡ b → (x : Option ℕ) → frame_end s place ≡ x → given b x ≡ None
             → verdict_of (and_then (pieces_of (drop place s)) (list_places (place_under element levels names))) (elements_lawful (place_lawful element names)) ≡ Unparsed
-        go b f none g k = from_cut s place h (list_places (place_under element levels names)) (elements_lawful (place_lawful element names)) g
-        go true f (some end) g k = never (unfold is_there in ap is_there k)
-        go false f (some end) g k =
+        go b f None g k = from_cut s place h (list_places (place_under element levels names)) (elements_lawful (place_lawful element names)) g
+        go true f (Some end) g k = never (unfold is_there in ap is_there k)
+        go false f (Some end) g k =
             from_unread s place h (list_places (place_under element levels names)) (elements_lawful (place_lawful element names)) end g
             (λ more. unfold list_places in unfold and_then in rw (other_tag element levels names (piece_in s place end) (eqb-false (at s place) 0x50 f)))
 
-    pub elements_next : (end : ℕ) → place_end s place ≡ some end
+    pub elements_next : (end : ℕ) → place_end s place ≡ Some end
         → elements_verdict element levels names (drop place s)
         ≡ worse (broken_if (eqb (place + 3) end) (place_verdict element levels names (part s (place + 3) end))) (elements_verdict element levels names (drop end s))
     unfolding elements_verdict place_end
@@ -235,8 +233,8 @@ module _ (levels : ℕ) (names : Dictionary) (s : List ℕ) where
   members_more place h = go (frame_end s place) refl
     where
       go : (x : Option ℕ) → frame_end s place ≡ x → verdict_of (and_then (pieces_of (drop place s)) (field_places none_named levels names)) (fields_lawful none_named names) ≡ Unparsed
-      go none e = from_cut s place h (field_places none_named levels names) (fields_lawful none_named names) e
-      go (some end) e = from_unread s place h (field_places none_named levels names) (fields_lawful none_named names) end e (λ more. unfold field_places in refl)
+      go None e = from_cut s place h (field_places none_named levels names) (fields_lawful none_named names) e
+      go (Some end) e = from_unread s place h (field_places none_named levels names) (fields_lawful none_named names) end e (λ more. unfold field_places in refl)
 
   module _ (name : List ℕ) (node : Schema) (columns : SchemaFields) where
     -- a place is missing
@@ -248,19 +246,19 @@ module _ (levels : ℕ) (names : Dictionary) (s : List ℕ) where
       abbrev Read : List Piece → Option Places
       Read = field_places (named name node columns) levels names
 
-      pub members_cut : place_end s place ≡ none → members_verdict (named name node columns) levels names (drop place s) ≡ Unparsed
+      pub members_cut : place_end s place ≡ None → members_verdict (named name node columns) levels names (drop place s) ≡ Unparsed
       unfolding members_verdict place_end given
       members_cut e = go (eqb (at s place) 0x50) refl (frame_end s place) refl e
         where
-          go : (b : Bool) → eqb (at s place) 0x50 ≡ b → (x : Option ℕ) → frame_end s place ≡ x → given b x ≡ none
+          go : (b : Bool) → eqb (at s place) 0x50 ≡ b → (x : Option ℕ) → frame_end s place ≡ x → given b x ≡ None
               → verdict_of (and_then (pieces_of (drop place s)) Read) (fields_lawful (named name node columns) names) ≡ Unparsed
-          go b f none g k = from_cut s place h Read (fields_lawful (named name node columns) names) g
-          go true f (some end) g k = never (unfold is_there in ap is_there k)
-          go false f (some end) g k =
+          go b f None g k = from_cut s place h Read (fields_lawful (named name node columns) names) g
+          go true f (Some end) g k = never (unfold is_there in ap is_there k)
+          go false f (Some end) g k =
               from_unread s place h Read (fields_lawful (named name node columns) names) end g
               (λ more. unfold field_places in unfold and_then in rw (other_tag node levels names (piece_in s place end) (eqb-false (at s place) 0x50 f)))
 
-      pub members_next : (end : ℕ) → place_end s place ≡ some end
+      pub members_next : (end : ℕ) → place_end s place ≡ Some end
           → members_verdict (named name node columns) levels names (drop place s)
           ≡ worse (broken_if (not (eqb (place + 3) end) && not (among name names)) (place_verdict node levels names (part s (place + 3) end)))
           (members_verdict columns levels names (drop end s))

@@ -1,17 +1,15 @@
 -- Verdicts put together: a place by what is typed in it, a list's and an object's places one after another.
+use Rattle.std.specs.Prelude.{Option, None, Some}
 use mathlib.Core.Bool.{Bool, true, false, cond, not, ◌&&◌}
 use mathlib.Core.List.{List, ◌∷◌}
-use mathlib.Core.Option.{Option, none, some}
-use mathlib.Core.Path.{◌≡◌, refl, sym}
+use mathlib.Core.Path.{◌≡◌, refl}
 use Prim.Native.Nat.{ℕ, ◌-◌}
-use borrow.Author.Tests.{not-false}
 use Rattle.paper.specs.Framing.{Piece, pieces_of}
 use Rattle.paper.specs.Metadata.{Dictionary}
 use Rattle.paper.specs.Rows.{Place, inner, Places, place, place_under, place_within, inner_body, list_places, field_places}
 use Rattle.paper.specs.Rules.{breaks_e, breaks_f, inner_lawful, elements_lawful, fields_lawful, place_lawful, place_lawful_by}
 use Rattle.paper.specs.Schemas.{Schema, leftover_only, column, list, fields, SchemaFields, named}
 use Rattle.paper.specs.Words.{and_then}
-use Rattle.paper.proofs.WordLaws.{never}
 use Rattle.places.specs.Verdicts.{verdict_of, typed_under, typed_lawful, typed_verdict, elements_verdict, members_verdict, worse, broken_if}
 use Rattle.places.specs.declared.verdicts.Verdict.TheVariants.{Lawful, Broken, Unparsed}
 use Rattle.places.specs.declared.verdicts.Verdict.{Verdict}
@@ -56,10 +54,10 @@ worse_assoc Broken Broken Unparsed = refl
 -- A test more: a rule that is broken.
 pub verdict_also : {A : Type 0} (x : Option A) (broken : Bool) (keeps : A → Bool) → verdict_of x (λ a. not broken && keeps a) ≡ broken_if broken (verdict_of x keeps)
 unfolding verdict_of
-verdict_also none true keeps = refl
-verdict_also none false keeps = refl
-verdict_also (some a) false keeps = refl
-verdict_also (some a) true keeps = go (keeps a)
+verdict_also None true keeps = refl
+verdict_also None false keeps = refl
+verdict_also (Some a) false keeps = refl
+verdict_also (Some a) true keeps = go (keeps a)
   where
     go : (b : Bool) → Broken ≡ broken_if true (cond b Lawful Broken)
     go true = refl
@@ -72,13 +70,13 @@ pub inner_verdict : (read : List Piece → Option Places) (keeps : Places → Bo
 unfolding inner_body verdict_of inner_lawful and_then
 inner_verdict read keeps s = go (pieces_of s)
   where
-    there : (x : Option Places) → verdict_of (and_then x λ ps. some (inner ps)) (inner_lawful keeps) ≡ verdict_of x keeps
-    there none = refl
-    there (some ps) = refl
+    there : (x : Option Places) → verdict_of (and_then x λ ps. Some (inner ps)) (inner_lawful keeps) ≡ verdict_of x keeps
+    there None = refl
+    there (Some ps) = refl
 
-    go : (x : Option (List Piece)) → verdict_of (and_then x λ pieces. and_then (read pieces) λ ps. some (inner ps)) (inner_lawful keeps) ≡ verdict_of (and_then x read) keeps
-    go none = refl
-    go (some pieces) = there (read pieces)
+    go : (x : Option (List Piece)) → verdict_of (and_then x λ pieces. and_then (read pieces) λ ps. Some (inner ps)) (inner_lawful keeps) ≡ verdict_of (and_then x read) keeps
+    go None = refl
+    go (Some pieces) = there (read pieces)
 
 pub typed_list : (element : Schema) (levels : ℕ) (names : Dictionary) (s : List ℕ)
     → typed_verdict (list element) levels names s ≡ elements_verdict element (levels - 1) names s
@@ -93,15 +91,15 @@ typed_fields columns levels names s = inner_verdict (field_places columns (level
 -- One place, and those behind it.
 both_verdicts : (x : Option Place) (y : Option Places) (one : Place → Bool) (others keeps : Places → Bool)
     → ((p : Place) (ps : Places) → keeps (place p ps) ≡ one p && others ps)
-    → verdict_of (and_then x λ p. and_then y λ ps. some (place p ps)) keeps ≡ worse (verdict_of x one) (verdict_of y others)
+    → verdict_of (and_then x λ p. and_then y λ ps. Some (place p ps)) keeps ≡ worse (verdict_of x one) (verdict_of y others)
 unfolding verdict_of and_then
-both_verdicts none y one others keeps split = refl
-both_verdicts (some p) none one others keeps split = go (one p)
+both_verdicts None y one others keeps split = refl
+both_verdicts (Some p) None one others keeps split = go (one p)
   where
     go : (b : Bool) → Unparsed ≡ worse (cond b Lawful Broken) Unparsed
     go true = refl
     go false = refl
-both_verdicts (some p) (some ps) one others keeps split = rw (split p ps) (go (one p) (others ps))
+both_verdicts (Some p) (Some ps) one others keeps split = rw (split p ps) (go (one p) (others ps))
   where
     go : (b c : Bool) → cond (b && c) Lawful Broken ≡ worse (cond b Lawful Broken) (cond c Lawful Broken)
     go true c = refl
@@ -123,22 +121,3 @@ unfolding field_places fields_lawful
 fields_step name node columns levels names piece more =
     both_verdicts (place_under node levels names piece) (field_places columns levels names more) (λ p. not (breaks_f names name p) && place_lawful node names p)
     (fields_lawful columns names) (fields_lawful (named name node columns) names) (λ p ps. refl)
-
--- ---- for the code
-
-pub not_broken : (b : Bool) (v : Verdict) → not b ≡ true → v ≡ broken_if b v
-not_broken false v e = refl
-not_broken true v e = never (sym e)
-
-module _ (b : Bool) (v : Verdict) (yes : not b ≡ false) where
-  broken_by : (w : Verdict) → v ≡ w → broken_if true w ≡ broken_if b v
-  broken_by w e = rw (not-false b yes, e)
-
-  pub still_unparsed : v ≡ Unparsed → Unparsed ≡ broken_if b v
-  still_unparsed e = broken_by Unparsed e
-
-  pub still_broken : v ≡ Broken → Broken ≡ broken_if b v
-  still_broken e = broken_by Broken e
-
-  pub now_broken : v ≡ Lawful → Broken ≡ broken_if b v
-  now_broken e = broken_by Lawful e

@@ -1,6 +1,5 @@
 -- What a place's own rules ask of its leftover.
-use Rattle.std.specs.Prelude.{Bool, not, ◌&&◌, ◌||◌, ℕ, ◌%◌, eqb}
-use Rattle.std.proofs.Math.Option.{Option, none, some}
+use Rattle.std.specs.Prelude.{Bool, not, ◌&&◌, ◌||◌, ℕ, ◌%◌, eqb, Option, None, Some}
 use Rattle.paper.specs.Meaning.{Doc}
 use Rattle.paper.specs.Rules.{is_object, is_array, is_fields_node, is_list_node, named_by, has_any}
 use Rattle.paper.specs.Schemas.{Schema}
@@ -21,5 +20,5 @@ beside_broken node d = not (is_fields_node node) || (not (is_object d) || has_an
 
 -- A leftover that does not read does not parse; what comes of one that does goes on.
 unfoldable pub with_left : Option Doc → (Doc → Verdict) → Verdict
-with_left none next = Unparsed
-with_left (some d) next = next d
+with_left None next = Unparsed
+with_left (Some d) next = next d

@@ -1,6 +1,5 @@
 -- The body of a place by its frames: `41`, `42`, both or neither.
-use Rattle.std.specs.Prelude.{cond, ◌&&◌, List, [], ◌∷◌, ℕ, ◌+◌, eqb, length}
-use Rattle.std.proofs.Math.Option.{Option, none, some}
+use Rattle.std.specs.Prelude.{cond, ◌&&◌, List, [], ◌∷◌, ℕ, ◌+◌, eqb, length, Option, None, Some}
 use Rattle.paper.specs.Framing.{Piece, pieces_of}
 use Rattle.places.specs.declared.parts.Parts.{Parts}
 use Rattle.places.specs.declared.parts.Parts.TheVariants.{Empty, Leftover, Typed, Both, Unframed}
@@ -16,8 +15,8 @@ parts_in (first ∷ second ∷ []) = cond (eqb first.tag 0x41 && eqb second.tag 
 parts_in (first ∷ second ∷ third ∷ more) = Unframed
 
 unfoldable pub parts_by : Option (List Piece) → Parts
-parts_by none = Unframed
-parts_by (some pieces) = parts_in pieces
+parts_by None = Unframed
+parts_by (Some pieces) = parts_in pieces
 
 -- Where there are both, the place where the leftover ends is told.
 unfoldable pub parts_of : List ℕ → Parts

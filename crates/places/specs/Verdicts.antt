@@ -1,10 +1,9 @@
 -- What something comes to that has to parse (else 6) and to keep its rules (else 7), and the parts of rows judged so.
-use Rattle.std.specs.Prelude.{Bool, true, false, cond, not, ◌&&◌, List, ℕ, ◌-◌}
-use Rattle.std.proofs.Math.Option.{Option, none, some}
-use Rattle.paper.specs.Framing.{Piece, pieces_of}
+use Rattle.std.specs.Prelude.{Bool, true, false, cond, List, ℕ, ◌-◌, Option, None, Some}
+use Rattle.paper.specs.Framing.{pieces_of}
 use Rattle.paper.specs.Metadata.{Dictionary}
-use Rattle.paper.specs.Rows.{Place, Typed, Places, Row, place_under, no_body, cell_body, inner_body, list_places, field_places, row_of}
-use Rattle.paper.specs.Rules.{breaks_e, breaks_f, cell_lawful, inner_lawful, elements_lawful, fields_lawful, place_lawful, row_lawful}
+use Rattle.paper.specs.Rows.{Typed, place_under, no_body, cell_body, inner_body, list_places, field_places, row_of}
+use Rattle.paper.specs.Rules.{cell_lawful, inner_lawful, elements_lawful, fields_lawful, place_lawful, row_lawful}
 use Rattle.paper.specs.Schemas.{Schema, leftover_only, column, list, fields, SchemaFields}
 use Rattle.paper.specs.Words.{and_then}
 use Rattle.places.specs.declared.verdicts.Verdict.{Verdict}
@@ -12,8 +11,8 @@ use Rattle.places.specs.declared.verdicts.Verdict.TheVariants.{Lawful, Broken, U
 
 -- Not there: it does not parse. There: by whether it keeps the rules.
 unfoldable pub verdict_of : {A : Type 0} → Option A → (A → Bool) → Verdict
-verdict_of none keeps = Unparsed
-verdict_of (some a) keeps = cond (keeps a) Lawful Broken
+verdict_of None keeps = Unparsed
+verdict_of (Some a) keeps = cond (keeps a) Lawful Broken
 
 -- ---- the parts of a row
 

@@ -1,16 +1,16 @@
 // The frame of an inner place.
 ghost use Rattle.std.specs.Prelude.{◌≡◌, ◌<◌, length};
-ghost use Rattle.places.specs.Frames.{place_frame};
+ghost use Rattle.places.specs.Frames.{place_end};
 
-use frames::{Frame, frame_at};
+use frames::frame_at;
 
 // The frame of a place that starts here: tag `50`, and it fits.
-pub fn place_frame(s: &[u8], at: usize) -> Frame
+pub fn place_frame(s: &[u8], at: usize) -> Option<usize>
     requires { at < length s.now }
-    ensures { result ≡ place_frame s.now at }
+    ensures { result ≡ place_end s.now at }
 {
     if s[at] != 0x50 {
-        return Frame::Cut;
+        return None;
     }
     frame_at(s, at)
 }

@@ -1,37 +1,32 @@
 // The two frames of a row.
-ghost use Rattle.std.proofs.Math.Option.{some};
 ghost use Rattle.std.specs.Prelude.{◌≡◌, ◌<◌, length};
 ghost use Rattle.frames.specs.Frames.{frame_end};
-ghost use Rattle.places.specs.Halves.{halves_of};
+ghost use Rattle.places.specs.Halves.{middle_of};
 
-use frames::{Frame, frame_at};
+use frames::frame_at;
 
 // Behind the first frame, one more that ends where the row does.
-fn second_half(row: &[u8], middle: usize) -> Frame
-    requires { (frame_end row.now 0 ≡ some middle) × (middle < length row.now) }
-    ensures { result ≡ halves_of row.now }
+fn second_half(row: &[u8], middle: usize) -> Option<usize>
+    requires { (frame_end row.now 0 ≡ Some middle) × (middle < length row.now) }
+    ensures { result ≡ middle_of row.now }
 {
-    let Frame::Ends(last) = frame_at(row, middle) else {
-        return Frame::Cut;
-    };
+    let last = frame_at(row, middle)?;
     if last < row.len() {
-        return Frame::Cut;
+        return None;
     }
-    Frame::Ends(middle)
+    Some(middle)
 }
 
 // Two frames and nothing more: where the first ends.
-pub fn row_halves(row: &[u8]) -> Frame
-    ensures { result ≡ halves_of row.now }
+pub fn row_halves(row: &[u8]) -> Option<usize>
+    ensures { result ≡ middle_of row.now }
 {
     if row.len() == 0 {
-        return Frame::Cut;
+        return None;
     }
-    let Frame::Ends(middle) = frame_at(row, 0) else {
-        return Frame::Cut;
-    };
+    let middle = frame_at(row, 0)?;
     if row.len() <= middle {
-        return Frame::Cut;
+        return None;
     }
     second_half(row, middle)
 }

@@ -4,19 +4,11 @@ ghost use Rattle.fields.specs.Telling.{entry_place, looked_at};
 ghost use Rattle.places.specs.Walking.{is_nowhere};
 
 use fields::field_id;
-use lookup::Looked;
 
 // The field at a position is present, and no id has its name.
 pub fn nameless(table: &[u16], field: usize, present: bool) -> bool
     requires { entry_place field < length table.now }
     ensures { result ≡ present && is_nowhere (looked_at table.now field) }
 {
-    if !present {
-        return false;
-    }
-    let looked = field_id(table, field);
-    match looked {
-        Looked::At(_) => false,
-        Looked::Nowhere => true,
-    }
+    present && field_id(table, field).is_none()
 }

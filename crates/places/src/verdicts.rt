@@ -2,7 +2,7 @@
 ghost use Rattle.std.specs.Prelude.{cond, ◌≡◌};
 ghost use Rattle.places.specs.Verdicts.{worse, broken_if};
 
-#[derive(Clone, Copy)]
+#[derive(Clone, Copy, PartialEq, Eq)]
 pub enum Verdict {
     // It parses and keeps rules a to f.
     Lawful,
@@ -27,13 +27,10 @@ pub fn worse(first: Verdict, second: Verdict) -> Verdict
 pub fn broken_if(broken: bool, verdict: Verdict) -> Verdict
     ensures { result ≡ broken_if broken verdict }
 {
-    if !broken {
-        return verdict;
-    }
-    match verdict {
-        Verdict::Unparsed => Verdict::Unparsed,
-        Verdict::Broken => Verdict::Broken,
-        Verdict::Lawful => Verdict::Broken,
+    if broken && verdict == Verdict::Lawful {
+        Verdict::Broken
+    } else {
+        verdict
     }
 }
 
@@ -42,7 +39,8 @@ pub fn parsed(good: bool) -> Verdict
     ensures { result ≡ cond good Verdict.Lawful Verdict.Unparsed }
 {
     if good {
-        return Verdict::Lawful;
+        Verdict::Lawful
+    } else {
+        Verdict::Unparsed
     }
-    Verdict::Unparsed
 }

@@ -1,7 +1,7 @@
 -- Demand 2 shown: by the laws of what a document is cut into (`written`), at the place that a path leads to.
+use Rattle.std.specs.Prelude.{Option, Some, Err}
 use mathlib.Core.Bool.{Bool, true, false, not, ◌||◌}
 use mathlib.Core.List.{List}
-use mathlib.Core.Option.{Option, some, some-injective}
 use mathlib.Core.Path.{◌≡◌, refl, sym, ap, ◌∙◌}
 use Prim.Native.Nat.{ℕ, ◌≤◌}
 use borrow.Author.Tests.{le-leb, not-true}
@@ -14,7 +14,7 @@ use Rattle.paper.specs.Metadata.{Dictionary}
 use Rattle.paper.specs.Normal.{names_used}
 use Rattle.paper.specs.Operations.{normalise_outcome, shred_outcome, row_judged, rebuild_outcome, document_answer}
 use Rattle.paper.specs.Rebuilding.{place_meaning_by, cell_doc, place_meaning}
-use Rattle.paper.specs.Refusals.{refused, require, obtain}
+use Rattle.paper.specs.Refusals.{require, obtain}
 use Rattle.paper.specs.Rows.{Place, empty, leftover, typed, both, cell, inner, Row, row_of}
 use Rattle.paper.specs.Rules.{has_typed, has_leftover, leftover_of, is_object, is_fields_node, has_any, breaks_a, breaks_b, breaks_c, breaks_d, place_lawful, row_lawful}
 use Rattle.paper.specs.Schemas.{Column, Schema, column, fields, SchemaFields, column_names, schema_of}
@@ -35,6 +35,7 @@ use Rattle.promises.specs.Walking.{Stop, place_at}
 use Rattle.promises.proofs.DoneLaws.{reached_document, row_reached}
 use Rattle.promises.proofs.ShownLaws.{shown_at, beside_unnamed}
 use Rattle.promises.proofs.WalkingLaws.{own_kept, everywhere_at, lawful_at}
+use Rattle.std.proofs.lemmas.Option.{same_Some}
 
 -- ---- what is written is read back
 
@@ -52,7 +53,7 @@ row_reads_back schema metadata value row room bytes shreds =
 
 -- ---- what is cut, at the place that a path leads to
 
-cut_ruled : (node : Schema) (d : Doc) (path : List Step) (stop : Stop) → place_at node (cut node d) path ≡ some stop → column_rule stop.node stop.held ≡ true
+cut_ruled : (node : Schema) (d : Doc) (path : List Step) (stop : Stop) → place_at node (cut node d) path ≡ Some stop → column_rule stop.node stop.held ≡ true
 cut_ruled node d path stop found = everywhere_at column_rule path node (cut node d) stop (column_rule_lem node d) found
 
 -- A column has typed what it shows exactly when it takes it.
@@ -66,20 +67,20 @@ kept_exactly said (both d t) kept = never (sym kept)
 
 -- What is read of a row of shred: the schema, the document and the cut are those that it was written from.
 module _ {schema metadata value row : List ℕ} (s : Shredded schema metadata value row) (bytes : Bytes metadata) where
-  its_node : (node : Schema) → schema_of schema ≡ some node → s.node ≡ node
-  its_node node is = some-injective s.node node (sym s.schema_is ∙ is)
+  its_node : (node : Schema) → schema_of schema ≡ Some node → s.node ≡ node
+  its_node node is = same_Some s.node node (sym s.schema_is ∙ is)
 
-  cut_at_lem : (node : Schema) (parsed : Row) → schema_of schema ≡ some node → row_of node row ≡ some parsed
-      → (path : List Step) (stop : Stop) → place_at node parsed.outermost path ≡ some stop → place_at node (cut node s.document.d) path ≡ some stop
+  cut_at_lem : (node : Schema) (parsed : Row) → schema_of schema ≡ Some node → row_of node row ≡ Some parsed
+      → (path : List Step) (stop : Stop) → place_at node parsed.outermost path ≡ Some stop → place_at node (cut node s.document.d) path ≡ Some stop
   cut_at_lem node parsed is reads path stop found =
       let d : Doc = s.document.d in
-      let back : row_of node row ≡ some (cut_row node d) = rw (its_node node is) at (shredded_back s bytes) in
-      let same : cut_row node d ≡ parsed = some-injective (cut_row node d) parsed (sym back ∙ reads) in
+      let back : row_of node row ≡ Some (cut_row node d) = rw (its_node node is) at (shredded_back s bytes) in
+      let same : cut_row node d ≡ parsed = same_Some (cut_row node d) parsed (sym back ∙ reads) in
       ap (λ (r : Row). place_at node r.outermost path) same ∙ found
 
   -- What stands at a path of the document is what is shown there.
-  cut_shown : (node : Schema) → schema_of schema ≡ some node → (d : Doc) → Means metadata value d → (path : List Step) (stop : Stop)
-      → place_at node (cut node s.document.d) path ≡ some stop → stands_at d path ≡ place_meaning stop.node stop.held
+  cut_shown : (node : Schema) → schema_of schema ≡ Some node → (d : Doc) → Means metadata value d → (path : List Step) (stop : Stop)
+      → place_at node (cut node s.document.d) path ≡ Some stop → stands_at d path ≡ place_meaning stop.node stop.held
   unfolding row_lawful
   cut_shown node is d means path stop found =
       let own : Doc = s.document.d in
@@ -129,7 +130,7 @@ lawful_unnamed names columns (leftover (object fs)) lawful =
     (own_kept (fields columns) _ (leftover (object fs)) lawful).0)
 
 broken_refused : (schema row : List ℕ) → length schema ≤ most_schema → length row ≤ most_row → (node : Schema) (parsed : Row)
-    → schema_of schema ≡ some node → row_of node row ≡ some parsed → row_lawful node parsed ≡ false → rebuild_outcome schema row ≡ refused BrokenRule
+    → schema_of schema ≡ Some node → row_of node row ≡ Some parsed → row_lawful node parsed ≡ false → rebuild_outcome schema row ≡ Err BrokenRule
 unfolding rebuild_outcome row_judged require obtain
 broken_refused schema row schema_fits row_fits node parsed is reads broken =
     rw (le-leb (length schema) most_schema schema_fits, le-leb (length row) most_row row_fits, is, reads, broken)

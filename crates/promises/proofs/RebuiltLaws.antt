@@ -1,7 +1,7 @@
 -- A row that rebuild accepts: it breaks no rule, and what is written of it is lawful and means what it means.
+use Rattle.std.specs.Prelude.{Option, None, Some, Ok}
 use mathlib.Core.Bool.{true, ◌&&◌}
 use mathlib.Core.List.{List, [], ◌∷◌}
-use mathlib.Core.Option.{Option, none, some, some-injective}
 use mathlib.Core.Path.{◌≡◌, refl, sym, ap, subst, ◌∙◌}
 use Prim.Native.Nat.{ℕ, ◌-◌, ◌≤◌}
 use native.Mathlib.Omega.{arith}
@@ -23,7 +23,7 @@ use Rattle.paper.specs.Metadata.{Dictionary, dictionary_of}
 use Rattle.paper.specs.Normal.{names_used, Document, normal_form}
 use Rattle.paper.specs.Operations.{check_outcome, document_fits, judged, value_judged, writable, written, normalise_outcome, row_judged, rebuild_outcome}
 use Rattle.paper.specs.Rebuilding.{or_null, place_meaning, row_meaning}
-use Rattle.paper.specs.Refusals.{reached, require, obtain}
+use Rattle.paper.specs.Refusals.{require, obtain}
 use Rattle.paper.specs.Rows.{Row, place_under, row_parts, row_of}
 use Rattle.paper.specs.Rules.{row_lawful}
 use Rattle.paper.specs.Schemas.{Schema, schema_of}
@@ -33,6 +33,7 @@ use Rattle.promises.specs.Done.{Bytes, Means}
 use Rattle.promises.proofs.DoneLaws.{one_reached}
 use Rattle.promises.proofs.SoundLaws.{Sound, null_sound, place_sound}
 use Rattle.promises.proofs.WalkingLaws.{nowhere}
+use Rattle.std.proofs.lemmas.Option.{same_Some}
 
 -- ---- the parts of a row that parses
 
@@ -40,16 +41,16 @@ record RowParts (node : Schema) (row : List ℕ) (parsed : Row) : Type 0 where
   pub metadata : List ℕ
   pub bytes : Bytes metadata
   pub short : length metadata ≤ most_metadata
-  pub names_are : dictionary_of metadata ≡ some parsed.names
+  pub names_are : dictionary_of metadata ≡ Some parsed.names
   pub piece : Piece
-  pub place_is : place_under node most_levels parsed.names piece ≡ some parsed.outermost
+  pub place_is : place_under node most_levels parsed.names piece ≡ Some parsed.outermost
 
-row_parts_lem : (node : Schema) (row : List ℕ) (parsed : Row) → Bytes row → row_of node row ≡ some parsed → RowParts node row parsed
+row_parts_lem : (node : Schema) (row : List ℕ) (parsed : Row) → Bytes row → row_of node row ≡ Some parsed → RowParts node row parsed
 unfolding row_of row_parts
 row_parts_lem node row parsed bytes reads =
     let pieces = then_some (pieces_of row) _ reads in go pieces.0 pieces.1 pieces.2
   where
-    go : (pieces : List Piece) → pieces_of row ≡ some pieces → row_parts node pieces ≡ some parsed → RowParts node row parsed
+    go : (pieces : List Piece) → pieces_of row ≡ Some pieces → row_parts node pieces ≡ Some parsed → RowParts node row parsed
     go [] framed e = nowhere e
     go (first ∷ []) framed e = nowhere e
     go (first ∷ second ∷ []) framed e =
@@ -57,21 +58,21 @@ row_parts_lem node row parsed bytes reads =
         let own = given_some (eqb first.tag 0x40 && leb (length first.body) most_metadata) _ e in
         let names = then_some (dictionary_of first.body) _ own.1 in
         let place = then_some (place_under node most_levels names.0 second) _ names.2 in
-        let same : record { names = names.0; outermost = place.0 } ≡ parsed = some-injective _ parsed place.2 in
+        let same : record { names = names.0; outermost = place.0 } ≡ parsed = same_Some _ parsed place.2 in
         record {
           metadata = first.body;
           bytes = rw frames.first_is (bytes_take (frames.end - 3) (drop 3 row) (bytes_drop 3 row bytes));
           short = leb-true (length first.body) most_metadata (and_both (eqb first.tag 0x40) _ own.0).1;
-          names_are = names.1 ∙ ap (λ (r : Row). some r.names) same;
+          names_are = names.1 ∙ ap (λ (r : Row). Some r.names) same;
           piece = second;
-          place_is = subst (λ (r : Row). place_under node most_levels r.names second ≡ some r.outermost) same place.1;
+          place_is = subst (λ (r : Row). place_under node most_levels r.names second ≡ Some r.outermost) same place.1;
         }
     go (first ∷ second ∷ third ∷ more) framed e = nowhere e
 
 -- ---- what it means is sound, and is written
 
 -- Its names are the row's, so its normal metadata is no longer than the row's.
-metadata_shorter : (metadata : List ℕ) (names : Dictionary) → dictionary_of metadata ≡ some names → Bytes metadata → (d : Doc) → names_there names d ≡ true
+metadata_shorter : (metadata : List ℕ) (names : Dictionary) → dictionary_of metadata ≡ Some names → Bytes metadata → (d : Doc) → names_there names d ≡ true
     → length (normal_form d).metadata ≤ length metadata
 unfolding normal_form
 metadata_shorter metadata names are bytes d there =
@@ -91,16 +92,16 @@ unfolding row_lawful row_meaning or_null
 row_sound node row parsed good parts lawful = go (place_meaning node parsed.outermost) refl
   where
     go : (x : Option Doc) → place_meaning node parsed.outermost ≡ x → Sound parsed.names most_levels (or_null x)
-    go none is = null_sound parsed.names most_levels (omega arith)
-    go (some d) is = place_sound parsed.names node most_levels good parts.piece parsed.outermost parts.place_is lawful d is
+    go None is = null_sound parsed.names most_levels (omega arith)
+    go (Some d) is = place_sound parsed.names node most_levels good parts.piece parsed.outermost parts.place_is lawful d is
 
 pub record Rebuilt (node : Schema) (parsed : Row) (form : Document) : Type 0 where
   pub lawful : row_lawful node parsed ≡ true
-  pub is_written : written (row_meaning node parsed) ≡ reached form
+  pub is_written : written (row_meaning node parsed) ≡ Ok form
   pub means : Means form.metadata form.value (row_meaning node parsed)
 
-pub row_rebuilds : (schema row : List ℕ) (form : Document) → Bytes row → rebuild_outcome schema row ≡ reached form → (node : Schema) (parsed : Row)
-    → schema_of schema ≡ some node → row_of node row ≡ some parsed → Rebuilt node parsed form
+pub row_rebuilds : (schema row : List ℕ) (form : Document) → Bytes row → rebuild_outcome schema row ≡ Ok form → (node : Schema) (parsed : Row)
+    → schema_of schema ≡ Some node → row_of node row ≡ Some parsed → Rebuilt node parsed form
 unfolding rebuild_outcome row_judged written writable obtain
 row_rebuilds schema row form bytes e node parsed is reads =
     let first = require_reached _ (leb (length schema) most_schema && leb (length row) most_row) _ e in
@@ -120,8 +121,8 @@ row_rebuilds schema row form bytes e node parsed is reads =
     }
 
 -- It is in normal form.
-pub rebuilt_again : (schema row : List ℕ) (form : Document) → Bytes row → rebuild_outcome schema row ≡ reached form
-    → normalise_outcome form.metadata form.value ≡ reached form
+pub rebuilt_again : (schema row : List ℕ) (form : Document) → Bytes row → rebuild_outcome schema row ≡ Ok form
+    → normalise_outcome form.metadata form.value ≡ Ok form
 unfolding rebuild_outcome row_judged
 rebuilt_again schema row form bytes e =
     let first = require_reached _ (leb (length schema) most_schema && leb (length row) most_row) _ e in

@@ -1,7 +1,7 @@
 -- Demand 4 shown: by the laws of what is shown, from the outermost place.
+use Rattle.std.specs.Prelude.{Option, None, Some}
 use mathlib.Core.Bool.{true}
 use mathlib.Core.List.{List, [], ◌∷◌}
-use mathlib.Core.Option.{Option, none, some}
 use mathlib.Core.Path.{◌≡◌, refl, sym, ap, ◌∙◌}
 use Prim.Native.Nat.{ℕ}
 use Rattle.forms.proofs.NormalLaws.{same_reached}
@@ -25,15 +25,15 @@ use Rattle.promises.proofs.ShownLaws.{Good, shown_at, empty_nowhere}
 use Rattle.promises.proofs.WalkingLaws.{same_stop}
 
 outermost_shown : (names : Dictionary) (node : Schema) (p : Place) (x : Option Doc) → place_meaning node p ≡ x → Good node → place_lawful node names p ≡ true
-    → (path : List Step) (stop : Stop) → place_at node p path ≡ some stop → stands_at (or_null x) path ≡ shows path stop
+    → (path : List Step) (stop : Stop) → place_at node p path ≡ Some stop → stands_at (or_null x) path ≡ shows path stop
 unfolding shows or_null stands_at place_at
 outermost_shown names node p x is good lawful [] stop found =
-    same_stop (λ n q. some (or_null x) ≡ some (or_null (place_meaning n q))) node p stop found (rw is)
-outermost_shown names node p none is good lawful (step ∷ more) stop found = empty_nowhere node p step more stop is found
-outermost_shown names node p (some d) is good lawful (step ∷ more) stop found = shown_at names (step ∷ more) node p d stop good lawful is found
+    same_stop (λ n q. Some (or_null x) ≡ Some (or_null (place_meaning n q))) node p stop found (rw is)
+outermost_shown names node p None is good lawful (step ∷ more) stop found = empty_nowhere node p step more stop is found
+outermost_shown names node p (Some d) is good lawful (step ∷ more) stop found = shown_at names (step ∷ more) node p d stop good lawful is found
 
 rebuilt : (schema row : List ℕ) (metadata_room value_room : ℕ) (form : Document) → Bytes row → Rebuilds schema row metadata_room value_room form
-    → (node : Schema) (parsed : Row) → schema_of schema ≡ some node → row_of node row ≡ some parsed → Rebuilt node parsed form
+    → (node : Schema) (parsed : Row) → schema_of schema ≡ Some node → row_of node row ≡ Some parsed → Rebuilt node parsed form
 rebuilt schema row metadata_room value_room form bytes rebuilds =
     row_rebuilds schema row form bytes (document_reached (rebuild_outcome schema row) metadata_room value_room form rebuilds).0
 

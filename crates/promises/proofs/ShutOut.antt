@@ -1,7 +1,7 @@
 -- Demand 5 shown: from the demands before it, and by computing.
+use Rattle.std.specs.Prelude.{Some}
 use mathlib.Core.Bool.{true, false}
 use mathlib.Core.List.{List}
-use mathlib.Core.Option.{some, some-injective}
 use mathlib.Core.Path.{◌≡◌, refl, sym, ap, ◌∙◌}
 use Prim.Native.Nat.{ℕ}
 use lib.ListN.{length, take}
@@ -29,6 +29,7 @@ use Rattle.promises.proofs.Columns.{row_reads_back}
 use Rattle.promises.proofs.DoneLaws.{one_reached}
 use Rattle.promises.proofs.OneRow.{same_row_same_meaning}
 use Rattle.promises.proofs.RebuiltLaws.{form_means}
+use Rattle.std.proofs.lemmas.Option.{same_Some}
 
 -- ---- refusing everything
 
@@ -69,10 +70,10 @@ taken_cut said (object fs) taken = never (sym taken)
 pub not_left_over : NotLeftOver
 not_left_over schema metadata value row room bytes shreds said d parsed is means reads taken =
     let back : ReadBack schema metadata value row = row_reads_back schema metadata value row room bytes shreds in
-    let node : back.node ≡ column said = some-injective back.node (column said) (sym back.schema_is ∙ is) in
+    let node : back.node ≡ column said = same_Some back.node (column said) (sym back.schema_is ∙ is) in
     let own : back.d ≡ d = same_reached (sym back.means ∙ means) in
-    let read : row_of (column said) row ≡ some (cut_row (column said) d) = rw (node, own) at back.reads in
-    let same : cut_row (column said) d ≡ parsed = some-injective (cut_row (column said) d) parsed (sym read ∙ reads) in
+    let read : row_of (column said) row ≡ Some (cut_row (column said) d) = rw (node, own) at back.reads in
+    let same : cut_row (column said) d ≡ parsed = same_Some (cut_row (column said) d) parsed (sym read ∙ reads) in
     rw (← same) (taken_cut said d taken)
 
 -- ---- nothing written, or an invented length
@@ -85,7 +86,7 @@ done-row_written schema metadata value before size done node d is means =
     let outcome : Outcome (List ℕ) = shred_outcome schema metadata value in
     let stands : RowStands outcome before size = row_done outcome before size done in
     let s : Shredded schema metadata value stands.row = shredded schema metadata value stands.row stands.is_reached in
-    let its_node : s.node ≡ node = some-injective s.node node (sym s.schema_is ∙ is) in
+    let its_node : s.node ≡ node = same_Some s.node node (sym s.schema_is ∙ is) in
     let its-doc : s.document.d ≡ d = same_reached (sym (accepted_means metadata value s.form s.document) ∙ means) in
     let row_is : row_bytes node d ≡ stands.row = rw (its_node, its-doc) at s.row_is in
     rw row_is (stands.row_size, stand_first stands.row_size stands.row_first)

@@ -1,9 +1,9 @@
 -- What a lawful row means is a document that bytes could mean: its cells are of their types and sizes, its objects' names rise, its
 -- levels are no more than were left, and its names are the row's.
+use Rattle.std.specs.Prelude.{Option, None, Some}
 use mathlib.Core.Bool.{Bool, true, false, cond, not, ◌&&◌, ◌||◌, and-false, or-true}
 use mathlib.Core.Logic.{◌⊎◌, inl, inr}
 use mathlib.Core.List.{List, [], ◌∷◌}
-use mathlib.Core.Option.{Option, none, some, some-injective}
 use mathlib.Core.Path.{◌≡◌, refl, sym, ap, ◌∙◌}
 use Prim.Native.Nat.{ℕ, zero, suc, ◌-◌, ◌≤◌}
 use native.Mathlib.Omega.{arith}
@@ -16,8 +16,8 @@ use Rattle.names.proofs.RisingLaws.{rising_more, rising_first, rising_front}
 use Rattle.names.proofs.UsedLaws.{insert_rises}
 use Rattle.order.proofs.OrderLaws.{equal_same}
 use Rattle.order.specs.Before.{order_of}
-use Rattle.order.specs.declared.Order.{Order}
-use Rattle.order.specs.declared.Order.TheVariants.{Less, Equal, Greater}
+use Rattle.std.specs.declared.cmp.Ordering.{Ordering}
+use Rattle.std.specs.declared.cmp.Ordering.TheVariants.{Less, Equal, Greater}
 use Rattle.paper.proofs.WordLaws.{given_some, then_some, and_both}
 use Rattle.paper.specs.Cells.{yes_no, string, binary, sized, body_kind, cell_by, cell_meaning}
 use Rattle.paper.specs.FirstBytes.{payload_sizes}
@@ -30,7 +30,7 @@ use Rattle.paper.specs.Rebuilding.{insert_field_by, insert_field, merge, fields_
 use Rattle.paper.specs.Rows.{Place, empty, leftover, typed, both, Typed, inner, Places, no_places, place, leftover_meaning, no_body, cell_body, inner_body, list_places, place_under, field_places}
 use Rattle.paper.specs.Rules.{has_leftover, has_typed, breaks_e, breaks_f, inner_lawful, elements_lawful, place_lawful, fields_lawful}
 use Rattle.paper.specs.Schemas.{Column, Schema, leftover_only, column, list, fields, SchemaFields, none_named, named, column_names, column_code}
-use Rattle.paper.specs.Words.{at, same, among}
+use Rattle.paper.specs.Words.{at, among}
 use Rattle.places.specs.declared.parts.Parts.{Parts}
 use Rattle.places.specs.Verdicts.{typed_under, typed_lawful}
 use Rattle.rebuilt.proofs.HeldLaws.{Held, nothing_held, left_held, typed_held, both_held, under_held, present_named, typed_keeps, both_keep}
@@ -40,6 +40,7 @@ use Rattle.schemas.specs.Written.{good_schema, good_fields}
 use Rattle.written.proofs.FittingLaws.{members_good}
 use Rattle.promises.proofs.Buffers.{apart}
 use Rattle.promises.proofs.WalkingLaws.{nowhere}
+use Rattle.std.proofs.lemmas.Option.{same_Some}
 
 -- ---- names that rise, when fields are put together
 
@@ -48,7 +49,7 @@ unfolding insert_field insert_field_by insert_name insert_by field_names
 insert_named name d no_fields = refl
 insert_named name d (field first e more) = go (order_of name first) refl (insert_named name d more)
   where
-    go : (o : Order) → order_of name first ≡ o → field_names (insert_field name d more) ≡ insert_name name (field_names more)
+    go : (o : Ordering) → order_of name first ≡ o → field_names (insert_field name d more) ≡ insert_name name (field_names more)
         → field_names (insert_field_by o name d first e more (insert_field name d more)) ≡ insert_by o name first (field_names more) (insert_name name (field_names more))
     go Less is rest = refl
     go Equal is rest = ap (λ (n : List ℕ). n ∷ field_names more) (equal_same name first is)
@@ -68,8 +69,8 @@ meant_rises (named name node columns) (place p ps) rise =
     go (place_meaning node p) (meant_rises columns ps (rising_more name (column_names columns) rise))
   where
     go : (x : Option Doc) → rising (field_names (fields_meaning columns ps)) ≡ true → rising (field_names (add_field name x (fields_meaning columns ps))) ≡ true
-    go none rest = rest
-    go (some d) rest =
+    go None rest = rest
+    go (Some d) rest =
         rising_front name (field_names (fields_meaning columns ps)) rest
         (λ n there. rising_first name (column_names columns) n rise (meant_named columns ps n there))
 
@@ -95,15 +96,15 @@ sized_good code s column-code not-one not-text size = go (code_range code column
     go (inr (low, high)) =
         rw (le-leb 3 code (omega arith), le-leb code 20 high, not-text, size, or-true (eqb code 15), lt-leb code 10 (omega arith), and-false (leb 8 code))
 
-cell_good : (said : Column) (s : List ℕ) (value : Scalar) → column_code said.code ≡ true → cell_meaning said s ≡ some value → scalar_good value ≡ true
+cell_good : (said : Column) (s : List ℕ) (value : Scalar) → column_code said.code ≡ true → cell_meaning said s ≡ Some value → scalar_good value ≡ true
 unfolding cell_meaning body_kind cell_by text_meaning scalar_good
 cell_good said s value column-code means = go (eqb said.code 1) (eqb said.code 15) (eqb said.code 16) refl refl refl means
   where
-    is : {other : Scalar} → some other ≡ some value → scalar_good other ≡ true → scalar_good value ≡ true
-    is {other} e good = rw (some-injective other value e) at good
+    is : {other : Scalar} → Some other ≡ Some value → scalar_good other ≡ true → scalar_good value ≡ true
+    is {other} e good = rw (same_Some other value e) at good
 
     go : (one fifteen sixteen : Bool) → eqb said.code 1 ≡ one → eqb said.code 15 ≡ fifteen → eqb said.code 16 ≡ sixteen
-        → cell_by (cond one yes_no (cond fifteen binary (cond sixteen string sized))) said.code s ≡ some value → scalar_good value ≡ true
+        → cell_by (cond one yes_no (cond fifteen binary (cond sixteen string sized))) said.code s ≡ Some value → scalar_good value ≡ true
     go true fifteen sixteen e f g m = is (given_some (eqb (length s) 1 && leb (at s 0) 1) _ m).1 refl
     go false true sixteen e f g m = is m (rw (eqb-true said.code 15 f))
     go false false true e f g m = is m refl
@@ -111,7 +112,7 @@ cell_good said s value column-code means = go (eqb said.code 1) (eqb said.code 1
         let size = given_some (eqb (length s) (get_or payload_sizes said.code 0)) _ m in
         is size.1 (sized_good said.code s column-code e g size.0)
 
-empty_shows : (node : Schema) → place_meaning node empty ≡ none
+empty_shows : (node : Schema) → place_meaning node empty ≡ None
 unfolding place_meaning place_meaning_by
 empty_shows leftover_only = refl
 empty_shows (column said) = refl
@@ -120,7 +121,7 @@ empty_shows (fields columns) = refl
 
 -- ---- sound documents
 
-same_places : {p q : Place} {ps qs : Places} → some (place p ps) ≡ some (place q qs) → (p ≡ q) × (ps ≡ qs)
+same_places : {p q : Place} {ps qs : Places} → Some (place p ps) ≡ Some (place q qs) → (p ≡ q) × (ps ≡ qs)
 same_places e = (cc, cc)
 
 module _ (names : Dictionary) where
@@ -183,7 +184,7 @@ module _ (names : Dictionary) where
       let parts = first_sound levels first e more all in
       go (order_of name first) parts (sound_insert levels name d more named_there one parts.all)
     where
-      go : (o : Order) → FirstSound levels first e more → SoundFields levels (insert_field name d more)
+      go : (o : Ordering) → FirstSound levels first e more → SoundFields levels (insert_field name d more)
           → SoundFields levels (insert_field_by o name d first e more (insert_field name d more))
       go Less parts rest = sound_field levels name d (field first e more) named_there one all
       go Equal parts rest = sound_field levels name d more named_there one parts.all
@@ -229,7 +230,7 @@ module _ (names : Dictionary) where
   scalar_sound zero value some_level good = absurd (omega arith)
   scalar_sound (suc levels) value some_level good = record { good = good; there = refl }
 
-  left_sound : (levels : ℕ) (s : List ℕ) (d : Doc) → leftover_meaning levels names s ≡ some d → Sound levels d
+  left_sound : (levels : ℕ) (s : List ℕ) (d : Doc) → leftover_meaning levels names s ≡ Some d → Sound levels d
   unfolding leftover_meaning
   left_sound levels s d e =
       let means = (given_some (leb (length s) most_leftover) _ e).1 in
@@ -238,27 +239,27 @@ module _ (names : Dictionary) where
   -- What is typed under a node means something sound.
   abbrev TypedSound : Schema → ℕ → (Typed → Doc) → Type 0
   TypedSound node levels means =
-      (s : List ℕ) (t : Typed) → typed_under node levels names s ≡ some t → typed_lawful node names t ≡ true → Sound levels (means t)
+      (s : List ℕ) (t : Typed) → typed_under node levels names s ≡ Some t → typed_lawful node names t ≡ true → Sound levels (means t)
 
   place_by : (node : Schema) (levels : ℕ) (means : Typed → Doc) → 1 ≤ levels → TypedSound node levels means → (piece : Piece) (p : Place)
-      → place_under node levels names piece ≡ some p → place_lawful node names p ≡ true → (d : Doc) → place_meaning_by means p ≡ some d → Sound levels d
+      → place_under node levels names piece ≡ Some p → place_lawful node names p ≡ true → (d : Doc) → place_meaning_by means p ≡ Some d → Sound levels d
   unfolding place_meaning_by
   place_by node levels means some_level sound piece p under lawful d meant = go (under_held node levels names piece p under) lawful meant
     where
       go : {parts : Parts} {q : Place} → Held (leftover_meaning levels names) (typed_under node levels names) piece.body parts q → place_lawful node names q ≡ true
-          → place_meaning_by means q ≡ some d → Sound levels d
+          → place_meaning_by means q ≡ Some d → Sound levels d
       go (nothing_held e) lawful meant = nowhere meant
-      go (left_held {d = e} read) lawful meant = rw (some-injective e d meant) at (left_sound levels _ e read)
-      go (typed_held {t = t} read) lawful meant = rw (some-injective (means t) d meant) at (sound _ t read (typed_keeps node names t lawful))
+      go (left_held {d = e} read) lawful meant = rw (same_Some e d meant) at (left_sound levels _ e read)
+      go (typed_held {t = t} read) lawful meant = rw (same_Some (means t) d meant) at (sound _ t read (typed_keeps node names t lawful))
       go (both_held {d = e} {t = t} left_read read) lawful meant =
-          rw (some-injective _ d meant) at
+          rw (same_Some _ d meant) at
           (halves_sound levels e (means t) some_level (left_sound levels _ e left_read) (sound _ t read (both_keep node names e t lawful).inside))
 
   -- ---- a list's elements
 
   elements_sound : (levels : ℕ) (read : Piece → Option Place) (lawful : Place → Bool) (means : Place → Option Doc) → 1 ≤ levels
-      → ((piece : Piece) (p : Place) → read piece ≡ some p → lawful p ≡ true → (d : Doc) → means p ≡ some d → Sound levels d)
-      → (pieces : List Piece) (ps : Places) → list_places read pieces ≡ some ps → elements_lawful lawful ps ≡ true → SoundAll levels (list_meaning means ps)
+      → ((piece : Piece) (p : Place) → read piece ≡ Some p → lawful p ≡ true → (d : Doc) → means p ≡ Some d → Sound levels d)
+      → (pieces : List Piece) (ps : Places) → list_places read pieces ≡ Some ps → elements_lawful lawful ps ≡ true → SoundAll levels (list_meaning means ps)
   unfolding list_places elements_lawful list_meaning all_docs all_names_there or_null
   elements_sound levels read lawful means some_level each [] no_places e keeps = record { good = refl; there = refl }
   elements_sound levels read lawful means some_level each [] (place p ps) e keeps = apart cc
@@ -272,21 +273,21 @@ module _ (names : Dictionary) where
       let same = same_places second.2 in
       let kept = and_both (not (breaks_e p) && lawful p) (elements_lawful lawful ps) keeps in
       sound_doc levels (or_null (means p)) (list_meaning means ps)
-      (go (means p) refl (first.1 ∙ ap some same.0) (and_both (not (breaks_e p)) (lawful p) kept.0).1)
-      (elements_sound levels read lawful means some_level each pieces ps (second.1 ∙ ap some same.1) kept.1)
+      (go (means p) refl (first.1 ∙ ap Some same.0) (and_both (not (breaks_e p)) (lawful p) kept.0).1)
+      (elements_sound levels read lawful means some_level each pieces ps (second.1 ∙ ap Some same.1) kept.1)
     where
-      go : (x : Option Doc) → means p ≡ x → read piece ≡ some p → lawful p ≡ true → Sound levels (or_null x)
-      go none is reads keeps = null_sound levels some_level
-      go (some d) is reads keeps = each piece p reads keeps d is
+      go : (x : Option Doc) → means p ≡ x → read piece ≡ Some p → lawful p ≡ true → Sound levels (or_null x)
+      go None is reads keeps = null_sound levels some_level
+      go (Some d) is reads keeps = each piece p reads keeps d is
 
   list_typed : (element : Schema) (levels : ℕ) → 1 ≤ levels → 1 ≤ levels - 1
-      → ((piece : Piece) (p : Place) → place_under element (levels - 1) names piece ≡ some p → place_lawful element names p ≡ true
-      → (d : Doc) → place_meaning element p ≡ some d → Sound (levels - 1) d)
-      → (pieces : List Piece) (ps : Places) → list_places (place_under element (levels - 1) names) pieces ≡ some ps → (t : Typed) → some (inner ps) ≡ some t
+      → ((piece : Piece) (p : Place) → place_under element (levels - 1) names piece ≡ Some p → place_lawful element names p ≡ true
+      → (d : Doc) → place_meaning element p ≡ Some d → Sound (levels - 1) d)
+      → (pieces : List Piece) (ps : Places) → list_places (place_under element (levels - 1) names) pieces ≡ Some ps → (t : Typed) → Some (inner ps) ≡ Some t
       → inner_lawful (elements_lawful (place_lawful element names)) t ≡ true → Sound levels (inner_doc (λ ps. array (list_meaning (λ p. place_meaning element p) ps)) t)
   unfolding inner_lawful inner_doc
   list_typed element levels some_level level-inside each pieces ps read t is keeps =
-      let same : inner ps ≡ t = some-injective (inner ps) t is in
+      let same : inner ps ≡ t = same_Some (inner ps) t is in
       let kept : elements_lawful (place_lawful element names) ps ≡ true = rw (← same) at keeps in
       rw (← same)
       (sound_array levels (list_meaning (λ p. place_meaning element p) ps) some_level
@@ -294,17 +295,17 @@ module _ (names : Dictionary) where
 
   -- ---- an object's fields
 
-  fields_typed : (columns : SchemaFields) (levels : ℕ) → 1 ≤ levels → rising (column_names columns) ≡ true → (ps : Places) (t : Typed) → some (inner ps) ≡ some t
+  fields_typed : (columns : SchemaFields) (levels : ℕ) → 1 ≤ levels → rising (column_names columns) ≡ true → (ps : Places) (t : Typed) → Some (inner ps) ≡ Some t
       → inner_lawful (fields_lawful columns names) t ≡ true → (fields_lawful columns names ps ≡ true → SoundFields (levels - 1) (fields_meaning columns ps))
       → Sound levels (inner_doc (λ ps. object (fields_meaning columns ps)) t)
   unfolding inner_lawful inner_doc
   fields_typed columns levels some_level rise ps t is keeps sound =
-      let same : inner ps ≡ t = some-injective (inner ps) t is in
+      let same : inner ps ≡ t = same_Some (inner ps) t is in
       let kept : fields_lawful columns names ps ≡ true = rw (← same) at keeps in
       rw (← same) (sound_object levels (fields_meaning columns ps) some_level (meant_rises columns ps rise) (sound kept))
 
   -- A place that means something is present, so its name is in the dictionary (rule f).
-  meant_present : (node : Schema) (p : Place) (d : Doc) → place_meaning node p ≡ some d → has_leftover p || has_typed p ≡ true
+  meant_present : (node : Schema) (p : Place) (d : Doc) → place_meaning node p ≡ Some d → has_leftover p || has_typed p ≡ true
   unfolding has_leftover has_typed
   meant_present node empty d meant = nowhere (sym (empty_shows node) ∙ meant)
   meant_present node (leftover e) d meant = refl
@@ -312,10 +313,10 @@ module _ (names : Dictionary) where
   meant_present node (both e t) d meant = refl
 
   field_added : (name : List ℕ) (node : Schema) (levels : ℕ) (p : Place) → not (breaks_f names name p) ≡ true → (fs : Fields) (x : Option Doc)
-      → place_meaning node p ≡ x → ((d : Doc) → place_meaning node p ≡ some d → Sound levels d) → SoundFields levels fs → SoundFields levels (add_field name x fs)
+      → place_meaning node p ≡ x → ((d : Doc) → place_meaning node p ≡ Some d → Sound levels d) → SoundFields levels fs → SoundFields levels (add_field name x fs)
   unfolding add_field
-  field_added name node levels p keeps fs none is sound rest = rest
-  field_added name node levels p keeps fs (some d) is sound rest =
+  field_added name node levels p keeps fs None is sound rest = rest
+  field_added name node levels p keeps fs (Some d) is sound rest =
       sound_field levels name d fs (present_named names name p (meant_present node p d is) keeps) (sound d is) rest
 
   -- ---- all of a row: over the node
@@ -323,14 +324,14 @@ module _ (names : Dictionary) where
   mutual
     unfolding place_meaning fields_meaning place_lawful fields_lawful place_under field_places typed_under typed_lawful inner_lawful no_body cell_body inner_body cell_doc inner_doc add_field
 
-    pub place_sound : (node : Schema) (levels : ℕ) → good_schema node levels ≡ true → (piece : Piece) (p : Place) → place_under node levels names piece ≡ some p
-        → place_lawful node names p ≡ true → (d : Doc) → place_meaning node p ≡ some d → Sound levels d
+    pub place_sound : (node : Schema) (levels : ℕ) → good_schema node levels ≡ true → (piece : Piece) (p : Place) → place_under node levels names piece ≡ Some p
+        → place_lawful node names p ≡ true → (d : Doc) → place_meaning node p ≡ Some d → Sound levels d
     place_sound leftover_only levels good = place_by leftover_only levels cell_doc (good_level leftover_only levels good) (λ s t e keeps. nowhere e)
     place_sound (column said) levels good =
         place_by (column said) levels cell_doc (good_level (column said) levels good)
         (λ s t e keeps.
         let value = then_some (cell_meaning said s) _ e in
-        rw (← some-injective _ t value.2)
+        rw (← same_Some _ t value.2)
         (scalar_sound levels value.0 (good_level (column said) levels good) (cell_good said s value.0 (good_column said levels good) value.1)))
     place_sound (list element) levels good =
         let inside = good_element element levels good in
@@ -350,7 +351,7 @@ module _ (names : Dictionary) where
         (λ kept. fields_sound columns (levels - 1) object-good.inside pieces.0 read.0 read.1 kept))
 
     fields_sound : (columns : SchemaFields) (levels : ℕ) → good_fields columns levels ≡ true → (pieces : List Piece) (ps : Places)
-        → field_places columns levels names pieces ≡ some ps → fields_lawful columns names ps ≡ true → SoundFields levels (fields_meaning columns ps)
+        → field_places columns levels names pieces ≡ Some ps → fields_lawful columns names ps ≡ true → SoundFields levels (fields_meaning columns ps)
     fields_sound none_named levels good pieces ps e keeps = none_sound levels
     fields_sound (named name node columns) levels good [] ps e keeps = nowhere e
     fields_sound (named name node columns) levels good (piece ∷ pieces) no_places e keeps = none_sound levels
@@ -362,5 +363,5 @@ module _ (names : Dictionary) where
         let kept = and_both (not (breaks_f names name p) && place_lawful node names p) (fields_lawful columns names ps) keeps in
         let own = and_both (not (breaks_f names name p)) (place_lawful node names p) kept.0 in
         field_added name node levels p own.0 (fields_meaning columns ps) (place_meaning node p) refl
-        (λ d meant. place_sound node levels goods.0 piece p (first.1 ∙ ap some same.0) own.1 d meant)
-        (fields_sound columns levels goods.1 pieces ps (second.1 ∙ ap some same.1) kept.1)
+        (λ d meant. place_sound node levels goods.0 piece p (first.1 ∙ ap Some same.0) own.1 d meant)
+        (fields_sound columns levels goods.1 pieces ps (second.1 ∙ ap Some same.1) kept.1)

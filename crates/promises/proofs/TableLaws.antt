@@ -1,14 +1,14 @@
 -- A table whose numbers rise gives the number of the first line that holds. What an operation comes to is such a number: a test
 -- that it requires, or a thing that it obtains, is a line of the table, and what follows is the rest.
+use Rattle.std.specs.Prelude.{Option, None, Some, Err, Ok}
 use mathlib.Core.Bool.{Bool, true, false, cond, not, ◌&&◌, ◌||◌, and-false}
 use mathlib.Core.List.{List, [], ◌∷◌}
-use mathlib.Core.Option.{Option, none, some}
 use mathlib.Core.Path.{◌≡◌, refl, sym, ◌∙◌}
 use Prim.Native.Nat.{ℕ, ◌≤◌, ◌<◌}
 use native.Mathlib.Omega.{arith}
 use borrow.Author.Tests.{ltb-true, ltb-false, ne_eqb, eq-eqb, eqb-true, eqb-false, leb-true, leb-false, lt-ltb, le-ltb}
 use lib.Dec.{leb, ltb, eqb}
-use Rattle.paper.specs.Refusals.{Outcome, refused, reached, require, obtain, refusal_number}
+use Rattle.paper.specs.Refusals.{Outcome, require, obtain, refusal_number}
 use Rattle.paper.specs.Words.{is_there}
 use Rattle.paper.specs.declared.Refusal.{Refusal}
 use Rattle.paper.proofs.WordLaws.{never, and_both}
@@ -85,8 +85,8 @@ one_number table a b given-a given-b = go (ltb a b) (ltb b a) refl refl
 -- ---- what an operation comes to, as a number: its refusal's, or that of what it reached
 
 unfoldable pub comes_to : {A : Type 0} → (A → ℕ) → Outcome A → ℕ
-comes_to last (refused r) = refusal_number r
-comes_to last (reached a) = last a
+comes_to last (Err r) = refusal_number r
+comes_to last (Ok a) = last a
 
 -- It comes to the number that a table gives.
 pub record Gives {A : Type 0} (last : A → ℕ) (outcome : Outcome A) (table : List Line) : Type 0 where
@@ -100,18 +100,18 @@ module _ {A : Type 0} {last : A → ℕ} (refusal : Refusal) {rest : List Line} 
   require_line false fails e next goes = record { number_is = rw e }
 
   pub obtain_line : {B : Type 0} (x : Option B) (fails : Bool) → fails ≡ not (is_there x) → (next : B → Outcome A)
-      → ((b : B) → x ≡ some b → Gives last (next b) rest) → Gives last (obtain x refusal next) ((refusal_number refusal when fails) ∷ rest)
+      → ((b : B) → x ≡ Some b → Gives last (next b) rest) → Gives last (obtain x refusal next) ((refusal_number refusal when fails) ∷ rest)
   unfolding obtain comes_to first is_there
-  obtain_line none fails e next goes = record { number_is = rw e }
-  obtain_line (some b) fails e next goes = record { number_is = rw e (goes b refl).number_is }
+  obtain_line None fails e next goes = record { number_is = rw e }
+  obtain_line (Some b) fails e next goes = record { number_is = rw e (goes b refl).number_is }
 
 -- At the end of the table: done, or, where the last line holds, its number.
 module _ {A : Type 0} {last : A → ℕ} (a : A) where
-  pub nothing_left : last a ≡ 0 → Gives last (reached a) []
+  pub nothing_left : last a ≡ 0 → Gives last (Ok a) []
   unfolding comes_to first
   nothing_left e = record { number_is = e }
 
-  pub last_line : (line : Line) → last a ≡ cond line.holds line.number 0 → Gives last (reached a) (line ∷ [])
+  pub last_line : (line : Line) → last a ≡ cond line.holds line.number 0 → Gives last (Ok a) (line ∷ [])
   unfolding comes_to first
   last_line line e = record { number_is = e }
 

@@ -1,7 +1,7 @@
 -- Every place is reached by a path, shown: over the node. A name leads to its own field, as the names of a node differ.
+use Rattle.std.specs.Prelude.{Some}
 use mathlib.Core.Bool.{Bool, true, false, cond}
 use mathlib.Core.List.{List, [], ◌∷◌}
-use mathlib.Core.Option.{some}
 use mathlib.Core.Path.{◌≡◌, refl, sym, ap, ◌∙◌}
 use Prim.Native.Nat.{ℕ, zero, suc, ◌-◌}
 use Rattle.names.proofs.RisingLaws.{rising_more, rising_once}
@@ -30,7 +30,7 @@ inner_inside All (typed (inner ps)) holds = holds
 inner_inside All (both d (cell said value)) holds = refl
 inner_inside All (both d (inner ps)) holds = holds
 
-all_elements : (One : Place → Bool) (ps : Places) → ((index : ℕ) (q : Place) → place_number index ps ≡ some q → One q ≡ true) → every_element One ps ≡ true
+all_elements : (One : Place → Bool) (ps : Places) → ((index : ℕ) (q : Place) → place_number index ps ≡ Some q → One q ≡ true) → every_element One ps ≡ true
 unfolding place_number every_element
 all_elements One no_places each = refl
 all_elements One (place p ps) each = rw (each zero p refl) (all_elements One ps (λ index q found. each (suc index) q found))
@@ -38,12 +38,12 @@ all_elements One (place p ps) each = rw (each zero p refl) (all_elements One ps 
 module _ (test : Schema → Place → Bool) where
   -- A test holds wherever a path leads.
   abbrev Along : Schema → Place → Type 0
-  Along node p = (path : List Step) (stop : Stop) → place_at node p path ≡ some stop → test stop.node stop.held ≡ true
+  Along node p = (path : List Step) (stop : Stop) → place_at node p path ≡ Some stop → test stop.node stop.held ≡ true
 
   AlongFields : SchemaFields → Places → Type 0
-  AlongFields columns ps = (name : List ℕ) (next : Stop) → place_named name columns ps ≡ some next → Along next.node next.held
+  AlongFields columns ps = (name : List ℕ) (next : Stop) → place_named name columns ps ≡ Some next → Along next.node next.held
 
-  element_along : (element : Schema) (p : Place) → Along (list element) p → (index : ℕ) (q : Place) → place_number index (inner_of p) ≡ some q → Along element q
+  element_along : (element : Schema) (p : Place) → Along (list element) p → (index : ℕ) (q : Place) → place_number index (inner_of p) ≡ Some q → Along element q
   unfolding place_at step_to and_then
   element_along element p along index q there path stop found = along (by_index index ∷ path) stop (rw there found)
 
@@ -60,7 +60,7 @@ module _ (test : Schema → Place → Bool) where
   unfolding AlongFields place_named
   others_along name node columns p ps rise along other next found = along other next (go (same name other) refl)
     where
-      go : (b : Bool) → same name other ≡ b → cond b (some (record { node = node; held = p })) (place_named other columns ps) ≡ some next
+      go : (b : Bool) → same name other ≡ b → cond b (Some (record { node = node; held = p })) (place_named other columns ps) ≡ Some next
       go true is =
           never (sym (found_named other columns ps next found) ∙ ap (λ (n : List ℕ). among n (column_names columns)) (sym (same_is name other is))
           ∙ rising_once name (column_names columns) rise)

@@ -1,8 +1,8 @@
 -- Along a path: what holds of a place and goes with each step holds where the path leads. So do a test that holds everywhere, and
 -- that a place breaks no rule.
+use Rattle.std.specs.Prelude.{None, Some}
 use mathlib.Core.Bool.{Bool, true, false, cond, not, ◌&&◌, ◌||◌}
 use mathlib.Core.List.{List, [], ◌∷◌}
-use mathlib.Core.Option.{none, some, some-injective}
 use mathlib.Core.Path.{◌≡◌, refl, sym, subst}
 use Prim.Native.Nat.{ℕ, zero, suc}
 use borrow.Author.Tests.{not-true}
@@ -15,11 +15,12 @@ use Rattle.paper.specs.Standing.{Step, by_name, by_index}
 use Rattle.paper.specs.Words.{is_there, same}
 use Rattle.written.specs.Everywhere.{every_element, everywhere, every_field}
 use Rattle.promises.specs.Walking.{Stop, inner_in, inner_of, place_number, place_named, step_to, place_at}
+use Rattle.std.proofs.lemmas.Option.{same_Some}
 
 -- What is not there is not found.
-pub nowhere : {A B : Type 0} {a : A} → none ≡ some a → B
+pub nowhere : {A B : Type 0} {a : A} → None ≡ Some a → B
 unfolding is_there
-nowhere found = never (sym (some_there none found))
+nowhere found = never (sym (some_there None found))
 
 -- Neither of two tests.
 pub or_none : (a b : Bool) → a || b ≡ false → (a ≡ false) × (b ≡ false)
@@ -27,15 +28,15 @@ or_none true b e = never e
 or_none false b e = (refl, e)
 
 -- One stop is another, so what holds of the one holds of the other.
-pub same_stop : (Holds : Schema → Place → Type 0) (node : Schema) (p : Place) (stop : Stop) → some (record { node = node; held = p }) ≡ some stop → Holds node p
+pub same_stop : (Holds : Schema → Place → Type 0) (node : Schema) (p : Place) (stop : Stop) → Some (record { node = node; held = p }) ≡ Some stop → Holds node p
     → Holds stop.node stop.held
-same_stop Holds node p stop found holds = subst (λ (s : Stop). Holds s.node s.held) (some-injective _ stop found) holds
+same_stop Holds node p stop found holds = subst (λ (s : Stop). Holds s.node s.held) (same_Some _ stop found) holds
 
 -- ---- along a path
 
 pub walked : (Holds : Schema → Place → Type 0)
-    → ((node : Schema) (p : Place) (step : Step) (next : Stop) → Holds node p → step_to node p step ≡ some next → Holds next.node next.held)
-    → (path : List Step) (node : Schema) (p : Place) (stop : Stop) → Holds node p → place_at node p path ≡ some stop → Holds stop.node stop.held
+    → ((node : Schema) (p : Place) (step : Step) (next : Stop) → Holds node p → step_to node p step ≡ Some next → Holds next.node next.held)
+    → (path : List Step) (node : Schema) (p : Place) (stop : Stop) → Holds node p → place_at node p path ≡ Some stop → Holds stop.node stop.held
 unfolding place_at
 walked Holds on [] node p stop holds found = same_stop Holds node p stop found holds
 walked Holds on (step ∷ more) node p stop holds found =
@@ -45,15 +46,15 @@ walked Holds on (step ∷ more) node p stop holds found =
 -- ---- one step: an element of a list's places, and the place of a name
 
 module _ (All : Places → Type 0) (One : Place → Type 0) (each : (p : Place) (ps : Places) → All (place p ps) → One p × All ps) where
-  pub element_holds : (index : ℕ) (ps : Places) (q : Place) → All ps → place_number index ps ≡ some q → One q
+  pub element_holds : (index : ℕ) (ps : Places) (q : Place) → All ps → place_number index ps ≡ Some q → One q
   unfolding place_number
   element_holds index no_places q all found = nowhere found
-  element_holds zero (place p ps) q all found = rw (some-injective p q found) at (each p ps all).0
+  element_holds zero (place p ps) q all found = rw (same_Some p q found) at (each p ps all).0
   element_holds (suc index) (place p ps) q all found = element_holds index ps q (each p ps all).1 found
 
 module _ (All : SchemaFields → Places → Type 0) (One : Schema → Place → Type 0)
     (each : (name : List ℕ) (node : Schema) (columns : SchemaFields) (p : Place) (ps : Places) → All (named name node columns) (place p ps) → One node p × All columns ps) where
-  pub field_holds : (name : List ℕ) (columns : SchemaFields) (ps : Places) (stop : Stop) → All columns ps → place_named name columns ps ≡ some stop
+  pub field_holds : (name : List ℕ) (columns : SchemaFields) (ps : Places) (stop : Stop) → All columns ps → place_named name columns ps ≡ Some stop
       → One stop.node stop.held
   unfolding place_named
   field_holds name none_named ps stop all found = nowhere found
@@ -61,8 +62,8 @@ module _ (All : SchemaFields → Places → Type 0) (One : Schema → Place → 
   field_holds name (named own node columns) (place p ps) stop all found =
       let parts = each own node columns p ps all in go (same own name) found parts.0 (field_holds name columns ps stop parts.1)
     where
-      go : (b : Bool) → cond b (some (record { node = node; held = p })) (place_named name columns ps) ≡ some stop → One node p
-          → (place_named name columns ps ≡ some stop → One stop.node stop.held) → One stop.node stop.held
+      go : (b : Bool) → cond b (Some (record { node = node; held = p })) (place_named name columns ps) ≡ Some stop → One node p
+          → (place_named name columns ps ≡ Some stop → One stop.node stop.held) → One stop.node stop.held
       go true found one rest = same_stop One node p stop found one
       go false found one rest = rest found
 
@@ -84,7 +85,7 @@ module _ (test : Schema → Place → Bool) where
   no_field none_named = refl
   no_field (named name node columns) = refl
 
-  everywhere_step : (node : Schema) (p : Place) (step : Step) (next : Stop) → everywhere test node p ≡ true → step_to node p step ≡ some next
+  everywhere_step : (node : Schema) (p : Place) (step : Step) (next : Stop) → everywhere test node p ≡ true → step_to node p step ≡ Some next
       → everywhere test next.node next.held ≡ true
   unfolding step_to everywhere every_element every_field
   everywhere_step leftover_only p step next holds found = nowhere found
@@ -111,7 +112,7 @@ module _ (test : Schema → Place → Bool) where
   own_test (list element) p holds = (and_both (test (list element) p) _ holds).0
   own_test (fields columns) p holds = (and_both (test (fields columns) p) _ holds).0
 
-  pub everywhere_at : (path : List Step) (node : Schema) (p : Place) (stop : Stop) → everywhere test node p ≡ true → place_at node p path ≡ some stop
+  pub everywhere_at : (path : List Step) (node : Schema) (p : Place) (stop : Stop) → everywhere test node p ≡ true → place_at node p path ≡ Some stop
       → test stop.node stop.held ≡ true
   everywhere_at path node p stop holds found =
       own_test stop.node stop.held (walked (λ node p. everywhere test node p ≡ true) everywhere_step path node p stop holds found)
@@ -144,7 +145,7 @@ module _ (names : Dictionary) where
   places_lawful columns p lawful =
       inside_inner (λ ps. fields_lawful columns names ps) (no_place columns) p (own_kept (fields columns) _ p lawful).1
 
-  pub lawful_step : (node : Schema) (p : Place) (step : Step) (next : Stop) → place_lawful node names p ≡ true → step_to node p step ≡ some next
+  pub lawful_step : (node : Schema) (p : Place) (step : Step) (next : Stop) → place_lawful node names p ≡ true → step_to node p step ≡ Some next
       → place_lawful next.node names next.held ≡ true
   unfolding step_to elements_lawful fields_lawful
   lawful_step leftover_only p step next lawful found = nowhere found
@@ -164,6 +165,6 @@ module _ (names : Dictionary) where
       let own = and_both (not (breaks_f names name p) && place_lawful node names p) _ all in ((and_both (not (breaks_f names name p)) _ own.0).1, own.1))
       name columns (inner_of p) next (places_lawful columns p lawful) found
 
-  pub lawful_at : (path : List Step) (node : Schema) (p : Place) (stop : Stop) → place_lawful node names p ≡ true → place_at node p path ≡ some stop
+  pub lawful_at : (path : List Step) (node : Schema) (p : Place) (stop : Stop) → place_lawful node names p ≡ true → place_at node p path ≡ Some stop
       → place_lawful stop.node names stop.held ≡ true
   lawful_at path node p stop lawful found = walked (λ node p. place_lawful node names p ≡ true) lawful_step path node p stop lawful found

@@ -1,7 +1,6 @@
 -- Demand 1. Whatever bytes are lent, each number of 01's table is given exactly when its condition holds, the lowest where several
 -- do. (What is left in the lent buffers then is in `Buffers.antt`.)
-use Rattle.std.specs.Prelude.{Bool, not, ◌||◌, List, [], ◌∷◌, ℕ, ltb, length}
-use Rattle.std.proofs.Math.Option.{Option, some}
+use Rattle.std.specs.Prelude.{Bool, not, ◌||◌, List, [], ◌∷◌, ℕ, ltb, length, Option, Some}
 use Rattle.paper.specs.Answers.{number_of, checked_carries, found_carries, document_carries, row_carries, cell_carries, box_carries}
 use Rattle.paper.specs.Cells.{cell_meaning}
 use Rattle.paper.specs.Limits.{most_metadata, most_value, most_schema, most_path, most_row, most_cell, most_levels}
@@ -64,7 +63,7 @@ document_of metadata value = and_then (dictionary_of metadata) λ names. meaning
 
 unfoldable pub rebuilt_of : (schema row : List ℕ) → Option Doc
 rebuilt_of schema row =
-    and_then (schema_of schema) λ node. and_then (row_of node row) λ parsed. given (row_lawful node parsed) (some (row_meaning node parsed))
+    and_then (schema_of schema) λ node. and_then (row_of node row) λ parsed. given (row_lawful node parsed) (Some (row_meaning node parsed))
 
 -- 8: the document's normal value passes 16,384 bytes; shred also: the row to be written passes 65,535.
 unfoldable pub normal_too_large : Option Doc → Bool

@@ -1,6 +1,5 @@
 -- Demand 2. Columns, leftovers, normal form.
-use Rattle.std.specs.Prelude.{true, false, List, ◌≡◌, ℕ, ◌≤◌, length}
-use Rattle.std.proofs.Math.Option.{some}
+use Rattle.std.specs.Prelude.{true, false, List, ◌≡◌, ℕ, ◌≤◌, length, Some}
 use Rattle.paper.specs.Answers.{number_of, document_carries}
 use Rattle.paper.specs.Limits.{most_schema, most_row}
 use Rattle.paper.specs.Meaning.{Doc}
@@ -21,9 +20,9 @@ use Rattle.promises.specs.Walking.{place_at}
 pub record ReadBack (schema metadata value row : List ℕ) : Type 0 where
   pub node : Schema
   pub d : Doc
-  pub schema_is : schema_of schema ≡ some node
+  pub schema_is : schema_of schema ≡ Some node
   pub means : Means metadata value d
-  pub reads : row_of node row ≡ some (record { names = names_used d; outermost = cut node d })
+  pub reads : row_of node row ≡ Some (record { names = names_used d; outermost = cut node d })
 
 abbrev pub RowReadsBack : Type 0
 RowReadsBack =
@@ -35,27 +34,27 @@ RowReadsBack =
 abbrev pub ColumnsTyped : Type 0
 ColumnsTyped =
     (schema metadata value row : List ℕ) (room : ℕ) → Bytes metadata → Shreds schema metadata value room row
-    → (node : Schema) (d : Doc) (parsed : Row) → schema_of schema ≡ some node → Means metadata value d → row_of node row ≡ some parsed
+    → (node : Schema) (d : Doc) (parsed : Row) → schema_of schema ≡ Some node → Means metadata value d → row_of node row ≡ Some parsed
     → (path : List Step) (said : Column) (p : Place)
-    → place_at node parsed.outermost path ≡ some (record { node = column said; held = p })
+    → place_at node parsed.outermost path ≡ Some (record { node = column said; held = p })
     → has_typed p ≡ of_it (stands_at d path) (takes_doc said)
 
 -- At every place under an object node, at any depth: no field that the node names is in the leftover.
 abbrev pub LeftoversUnnamed : Type 0
 LeftoversUnnamed =
     (schema metadata value row : List ℕ) (room : ℕ) → Bytes metadata → Shreds schema metadata value room row
-    → (node : Schema) (parsed : Row) → schema_of schema ≡ some node → row_of node row ≡ some parsed
+    → (node : Schema) (parsed : Row) → schema_of schema ≡ Some node → row_of node row ≡ Some parsed
     → (path : List Step) (columns : SchemaFields) (p : Place)
-    → place_at node parsed.outermost path ≡ some (record { node = fields columns; held = p })
+    → place_at node parsed.outermost path ≡ Some (record { node = fields columns; held = p })
     → has_any (column_names columns) (leftover_of p) ≡ false
 
 -- And of any row at all that parses, whoever wrote it: if a leftover has such a field, rebuild answers 7.
 abbrev pub NamedLeftoverRefused : Type 0
 NamedLeftoverRefused =
     (schema row : List ℕ) → length schema ≤ most_schema → length row ≤ most_row
-    → (node : Schema) (parsed : Row) → schema_of schema ≡ some node → row_of node row ≡ some parsed
+    → (node : Schema) (parsed : Row) → schema_of schema ≡ Some node → row_of node row ≡ Some parsed
     → (path : List Step) (columns : SchemaFields) (p : Place)
-    → place_at node parsed.outermost path ≡ some (record { node = fields columns; held = p })
+    → place_at node parsed.outermost path ≡ Some (record { node = fields columns; held = p })
     → has_any (column_names columns) (leftover_of p) ≡ true
     → (metadata_room value_room : ℕ)
     → number_of (document_carries (document_answer (rebuild_outcome schema row) metadata_room value_room)) ≡ 7

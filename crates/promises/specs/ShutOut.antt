@@ -1,6 +1,5 @@
 -- Demand 5. Programs that 01 names and that the promises shut out. Beside each, the must-fail edits that try it.
-use Rattle.std.specs.Prelude.{true, false, List, [], ◌∷◌, ◌≡◌, ℕ, ◌*◌, ◌≤◌, length, take, replicate}
-use Rattle.std.proofs.Math.Option.{some}
+use Rattle.std.specs.Prelude.{true, false, List, [], ◌∷◌, ◌≡◌, ℕ, ◌*◌, ◌≤◌, length, take, replicate, Some, Ok}
 use Rattle.forms.specs.WellFormed.{well_formed}
 use Rattle.paper.specs.Answers.{present_of, found_carries, cell_carries, box_carries}
 use Rattle.paper.specs.Limits.{most_levels, most_metadata, most_value}
@@ -12,10 +11,8 @@ use Rattle.paper.specs.Rows.{Row, row_of}
 use Rattle.paper.specs.Rules.{has_typed, has_leftover}
 use Rattle.paper.specs.Schemas.{Column, Schema, column, schema_of}
 use Rattle.paper.specs.Shredding.{row_bytes}
-use Rattle.paper.specs.declared.DocumentAnswer.{DocumentAnswer}
-use Rattle.paper.specs.declared.RowAnswer.{RowAnswer}
 use Rattle.written.specs.Everywhere.{takes_doc}
-use Rattle.promises.specs.Buffers.{metadata_left, value_left, row_left}
+use Rattle.promises.specs.Buffers.{lengths, metadata_left, value_left, row_left}
 use Rattle.promises.specs.Done.{Bytes, Means, Shreds}
 
 -- ---- refusing everything. `AnyBytes.antt` says that each refusal is given exactly when its condition holds; and:
@@ -126,8 +123,8 @@ EncodingsOneRow = AllHold encodings
 abbrev pub NotLeftOver : Type 0
 NotLeftOver =
     (schema metadata value row : List ℕ) (room : ℕ) → Bytes metadata → Shreds schema metadata value room row
-    → (said : Column) (d : Doc) (parsed : Row) → schema_of schema ≡ some (column said) → Means metadata value d
-    → row_of (column said) row ≡ some parsed → takes_doc said d ≡ true
+    → (said : Column) (d : Doc) (parsed : Row) → schema_of schema ≡ Some (column said) → Means metadata value d
+    → row_of (column said) row ≡ Some parsed → takes_doc said d ≡ true
     → (has_typed parsed.outermost ≡ true) × (has_leftover parsed.outermost ≡ false)
 
 -- ---- done with nothing written, or an invented length: what stands first in the buffer is the row of the document under the
@@ -135,14 +132,14 @@ NotLeftOver =
 -- `naming/size_without_the_last_offset`)
 abbrev pub DoneRowWritten : Type 0
 DoneRowWritten =
-    (schema metadata value before : List ℕ) (size : ℕ) → row_answer (shred_outcome schema metadata value) (length before) ≡ RowAnswer.Done size
-    → (node : Schema) (d : Doc) → schema_of schema ≡ some node → Means metadata value d
+    (schema metadata value before : List ℕ) (size : ℕ) → row_answer (shred_outcome schema metadata value) (length before) ≡ Ok size
+    → (node : Schema) (d : Doc) → schema_of schema ≡ Some node → Means metadata value d
     → (size ≡ length (row_bytes node d)) × (take size (row_left (shred_outcome schema metadata value) before) ≡ row_bytes node d)
 
 abbrev pub DoneFormWritten : Type 0
 DoneFormWritten =
     (metadata value metadata_before value_before : List ℕ) (metadata_size_here value_size_here : ℕ)
-    → document_answer (normalise_outcome metadata value) (length metadata_before) (length value_before) ≡ DocumentAnswer.Done metadata_size_here value_size_here
+    → document_answer (normalise_outcome metadata value) (length metadata_before) (length value_before) ≡ Ok (lengths metadata_size_here value_size_here)
     → (d : Doc) → Means metadata value d
     → (take metadata_size_here (metadata_left (normalise_outcome metadata value) metadata_before value_before) ≡ (normal_form d).metadata)
     × (take value_size_here (value_left (normalise_outcome metadata value) metadata_before value_before) ≡ (normal_form d).value)

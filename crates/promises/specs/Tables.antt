@@ -1,6 +1,5 @@
 -- A table of numbers and conditions, as 01 has one, and when a number is given by it.
-use Rattle.std.specs.Prelude.{Bool, true, false, ◌&&◌, ◌||◌, List, [], ◌∷◌, ◌≡◌, ℕ, ◌<◌, eqb}
-use Rattle.std.proofs.Math.Option.{Option, none, some}
+use Rattle.std.specs.Prelude.{Bool, true, false, ◌&&◌, ◌||◌, List, [], ◌∷◌, ◌≡◌, ℕ, ◌<◌, eqb, Option, None, Some}
 
 -- A line of a table: a number, and whether its condition holds.
 pub record Line : Type 0 where
@@ -29,5 +28,5 @@ OneNumber = (table : List Line) (number other : ℕ) → GivenExactly table numb
 
 -- A test of something that may not be there. Where it is not, the test does not apply, and is no reason to refuse.
 unfoldable pub of_it : {A : Type 0} → Option A → (A → Bool) → Bool
-of_it none test = false
-of_it (some a) test = test a
+of_it None test = false
+of_it (Some a) test = test a

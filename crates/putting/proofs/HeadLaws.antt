@@ -1,23 +1,22 @@
 -- The head of a container in front of its parts: how long it is, and whether there is room for it.
+use Rattle.std.specs.Prelude.{Some, None}
 use mathlib.Core.List.{List}
 use mathlib.Core.Path.{◌≡◌, sym, ap, ◌∙◌}
-use Prim.Native.Nat.{ℕ, ◌-◌, ◌*◌, ◌≤◌, ◌<◌}
+use Prim.Native.Nat.{ℕ, ◌-◌, ◌≤◌, ◌<◌}
 use native.Mathlib.Omega.{arith}
 use borrow.Author.Tests.{le-leb, lt-leb}
-use lib.ListN.{length, length-append}
+use lib.ListN.{length, get_or, length-append, length-map}
 use Rattle.forms.proofs.ContainerLaws.{array_length, object_length}
 use Rattle.numbers.specs.Little.{smallest_width}
 use Rattle.paper.specs.FirstBytes.{count_size}
 use Rattle.paper.specs.Normal.{large_bit, largest}
 use Rattle.paper.specs.Values.{head_size_of}
-use Rattle.paper.specs.Words.{numbers, joined}
+use Rattle.paper.specs.Words.{joined}
 use Rattle.writing.proofs.HeadLaws.{array_split, object_split}
-use Rattle.writing.proofs.IdLaws.{ranks_length}
 use Rattle.writing.specs.Ends.{EndsAt, Lies}
 use Rattle.writing.specs.Heads.{array_head, object_head}
 use Rattle.writing.specs.Rewritten.{ranks_at}
 use Rattle.putting.specs.Put.{Room, PutAs, put, full}
-use Rattle.putting.specs.declared.Put.TheVariants.{At, Full}
 
 -- ---- how long a head is
 
@@ -60,11 +59,11 @@ module _ {before : List ℕ} {start end count : ℕ} {parts : List (List ℕ)} (
 
 module _ {before : List ℕ} {floor start : ℕ} (room : Room before floor start) (end count : ℕ) where
   module _ (width counted size : ℕ) (width_is : width ≡ smallest_width (end - start)) (count_is : counted ≡ count_size (large_bit count)) where
-    head_full : {head after : List ℕ} → start - floor < size → length head ≡ size → PutAs head before after floor start Full
+    head_full : {head after : List ℕ} → start - floor < size → length head ≡ size → PutAs head before after floor start None
     head_full short long = let above = room.above in full (omega arith)
 
     head_put : {head after : List ℕ} {first : ℕ} → size ≤ start - floor → length head ≡ size → EndsAt head before after start first
-        → PutAs head before after floor start (At first)
+        → PutAs head before after floor start (Some first)
     head_put {first = first} fits long ends =
         let place = ends.size in
         let above = room.above in
@@ -78,36 +77,38 @@ module _ {before : List ℕ} {floor start : ℕ} (room : Room before floor start
       array_long parts lie same = array_size lie same ∙ rw (← width_is, ← count_is, ← is)
 
       pub array_full : start - floor < size → {after : List ℕ} → (parts : List (List ℕ)) → Lies before start end parts → length parts ≡ count
-          → PutAs (array_head parts) before after floor start Full
+          → PutAs (array_head parts) before after floor start None
       array_full short parts lie same = head_full short (array_long parts lie same)
 
       pub array_put : size ≤ start - floor → {after : List ℕ} {first : ℕ}
           → ((parts : List (List ℕ)) → Lies before start end parts → length parts ≡ count → EndsAt (array_head parts) before after start first)
-          → (parts : List (List ℕ)) → Lies before start end parts → length parts ≡ count → PutAs (array_head parts) before after floor start (At first)
+          → (parts : List (List ℕ)) → Lies before start end parts → length parts ≡ count → PutAs (array_head parts) before after floor start (Some first)
       array_put fits head parts lie same = head_put fits (array_long parts lie same) (head parts lie same)
 
-    -- An object's ids are given in two bytes each.
-    module _ (ranks given : List ℕ) (there : 2 * count ≤ length given) (most id-width : ℕ) (most-is : most ≡ largest (ranks_at ranks (numbers 2 count given)))
+    -- An object has one member to an id.
+    module _ (ranks given : List ℕ) (many : count ≡ length given) (most id-width : ℕ) (most-is : most ≡ largest (ranks_at ranks given))
         (id_is : id-width ≡ smallest_width most) (is : size ≡ head_size_of count counted id-width width) where
       abbrev ids : List ℕ
-      ids = ranks_at ranks (numbers 2 count given)
+      ids = ranks_at ranks given
+
+      as_many : length ids ≡ count
+      unfolding ranks_at
+      as_many = length-map given (λ (id : ℕ). get_or ranks id 0) ∙ sym many
 
       pub object_fits : size ≤ start - floor
-          → head_size_of count (count_size (large_bit count)) (smallest_width (largest (ranks_at ranks (numbers 2 count given)))) (smallest_width (end - start)) ≤ start
-      object_fits fits = rw (← width_is, ← count_is, ← most-is, ← id_is, ← is) (omega arith)
+          → head_size_of (length given) (count_size (large_bit (length given))) (smallest_width (largest (ranks_at ranks given))) (smallest_width (end - start)) ≤ start
+      object_fits fits = rw (← many, ← width_is, ← count_is, ← most-is, ← id_is, ← is) (omega arith)
 
-      object_long : (parts : List (List ℕ)) → Lies before start end parts → length parts ≡ count → length (object_head ids parts) ≡ size
-      object_long parts lie same =
-          let many : length ids ≡ count = ranks_length ranks given 2 count (omega arith) (omega arith) in
-          object_size lie same ids many ∙ rw (← width_is, ← count_is, ← most-is, ← id_is, ← is)
+      object_long : (parts : List (List ℕ)) → Lies before start end parts → length parts ≡ length given → length (object_head ids parts) ≡ size
+      object_long parts lie same = object_size lie (same ∙ sym many) ids as_many ∙ rw (← width_is, ← count_is, ← most-is, ← id_is, ← is)
 
-      pub object_full : start - floor < size → {after : List ℕ} → (parts : List (List ℕ)) → Lies before start end parts → length parts ≡ count
-          → PutAs (object_head (ranks_at ranks (numbers 2 count given)) parts) before after floor start Full
+      pub object_full : start - floor < size → {after : List ℕ} → (parts : List (List ℕ)) → Lies before start end parts → length parts ≡ length given
+          → PutAs (object_head (ranks_at ranks given) parts) before after floor start None
       object_full short parts lie same = head_full short (object_long parts lie same)
 
       pub object_put : size ≤ start - floor → {after : List ℕ} {first : ℕ}
-          → ((parts : List (List ℕ)) → Lies before start end parts → length parts ≡ count
-          → EndsAt (object_head (ranks_at ranks (numbers 2 count given)) parts) before after start first)
-          → (parts : List (List ℕ)) → Lies before start end parts → length parts ≡ count
-          → PutAs (object_head (ranks_at ranks (numbers 2 count given)) parts) before after floor start (At first)
+          → ((parts : List (List ℕ)) → Lies before start end parts → length parts ≡ length given
+          → EndsAt (object_head (ranks_at ranks given) parts) before after start first)
+          → (parts : List (List ℕ)) → Lies before start end parts → length parts ≡ length given
+          → PutAs (object_head (ranks_at ranks given) parts) before after floor start (Some first)
       object_put fits head parts lie same = head_put fits (object_long parts lie same) (head parts lie same)

@@ -1,5 +1,6 @@
 -- What was put in front of a place, taken apart; and a container's: its head in front of its parts makes it, and where one
 -- of its parts would reach below the floor, so would all of it.
+use Rattle.std.specs.Prelude.{Some, None, Option}
 use mathlib.Core.List.{List, [], ◌∷◌, ◌++◌}
 use mathlib.Core.Path.{◌≡◌, refl, sym, ap, ◌∙◌}
 use Prim.Native.Nat.{ℕ, ◌+◌, ◌≤◌, ◌<◌}
@@ -15,21 +16,19 @@ use Rattle.writing.proofs.HeadLaws.{array_split, object_split}
 use Rattle.writing.specs.Ends.{EndsAt, Lies}
 use Rattle.writing.specs.Heads.{array_head, object_head}
 use Rattle.putting.specs.Put.{Room, PutAs, put, full}
-use Rattle.putting.specs.declared.Put.TheVariants.{At, Full}
-use Rattle.putting.specs.declared.Put.{Put}
 
 module _ {bytes before after : List ℕ} {floor end : ℕ} where
-  pub put_here : {start : ℕ} → PutAs bytes before after floor end (At start) → (floor ≤ start) × EndsAt bytes before after end start
+  pub put_here : {start : ℕ} → PutAs bytes before after floor end (Some start) → (floor ≤ start) × EndsAt bytes before after end start
   put_here (put start above ends) = (above, ends)
 
-  pub put_full : PutAs bytes before after floor end Full → end < floor + length bytes
+  pub put_full : PutAs bytes before after floor end None → end < floor + length bytes
   put_full (full short) = short
 
-  pub put_length : {start : ℕ} → end ≤ length before → PutAs bytes before after floor end (At start) → length after ≡ length before
+  pub put_length : {start : ℕ} → end ≤ length before → PutAs bytes before after floor end (Some start) → length after ≡ length before
   put_length within (put start above ends) = ends_length ends within
 
   -- There is still room in front of what was put.
-  pub put_room : {start : ℕ} → Room before floor end → PutAs bytes before after floor end (At start) → Room after floor start
+  pub put_room : {start : ℕ} → Room before floor end → PutAs bytes before after floor end (Some start) → Room after floor start
   put_room room (put start above ends) =
       let size = ends.size in
       let within = room.within in
@@ -38,7 +37,7 @@ module _ {bytes before after : List ℕ} {floor end : ℕ} where
       record { above = above; within = omega arith; small = omega arith }
 
   -- Bytes that were put in front of others are put with them.
-  pub put_join : {more last : List ℕ} {start : ℕ} {r : Put} → end ≤ length before → EndsAt bytes before after end start
+  pub put_join : {more last : List ℕ} {start : ℕ} {r : Option ℕ} → end ≤ length before → EndsAt bytes before after end start
       → PutAs more after last floor start r → PutAs (more ++ bytes) before last floor end r
   put_join {more} within ends (put first above front) = put first above (ends_join ends within front)
   put_join {more} within ends (full short) =
@@ -47,17 +46,17 @@ module _ {bytes before after : List ℕ} {floor end : ℕ} where
       full (omega arith)
 
 -- The same of an answer that a test told.
-module _ {bytes before after : List ℕ} {floor end : ℕ} {r : Put} (done : PutAs bytes before after floor end r) where
-  pub told_here : {start : ℕ} → r ≡ At start → (floor ≤ start) × EndsAt bytes before after end start
+module _ {bytes before after : List ℕ} {floor end : ℕ} {r : Option ℕ} (done : PutAs bytes before after floor end r) where
+  pub told_here : {start : ℕ} → r ≡ Some start → (floor ≤ start) × EndsAt bytes before after end start
   told_here e = put_here (rw e at done)
 
-  pub told_full : r ≡ Full → end < floor + length bytes
+  pub told_full : r ≡ None → end < floor + length bytes
   told_full e = put_full (rw e at done)
 
-  pub told_length : {start : ℕ} → end ≤ length before → r ≡ At start → length after ≡ length before
+  pub told_length : {start : ℕ} → end ≤ length before → r ≡ Some start → length after ≡ length before
   told_length within e = put_length within (rw e at done)
 
-  pub told_room : {start : ℕ} → Room before floor end → r ≡ At start → Room after floor start
+  pub told_room : {start : ℕ} → Room before floor end → r ≡ Some start → Room after floor start
   told_room room e = put_room room (rw e at done)
 
 -- ---- a container: its head in front of its parts
@@ -75,7 +74,7 @@ ends_lie parts {before} {middle} {start} {end} filled within ends =
     ∙ ap (drop long) front ∙ drop_at (joined parts) (drop end before) long refl in
     record { filled = filled; size = size; are = rw behind front; within = omega arith }
 
-module _ (parts : List (List ℕ)) {before middle after : List ℕ} {floor start end : ℕ} {r : Put} (within : end ≤ length before)
+module _ (parts : List (List ℕ)) {before middle after : List ℕ} {floor start end : ℕ} {r : Option ℕ} (within : end ≤ length before)
     (ends : EndsAt (joined parts) before middle end start) where
   pub put_array : PutAs (array_head parts) middle after floor start r → PutAs (array_bytes parts) before after floor end r
   put_array head = rw (array_split parts) (put_join within ends head)

@@ -1,5 +1,5 @@
 -- A part of a value put in front of a place of a room, unless it would reach below a floor.
-use Rattle.std.specs.Prelude.{true, List, ◌≡◌, ℕ, ◌+◌, ◌≤◌, ◌<◌, length}
+use Rattle.std.specs.Prelude.{true, List, ◌≡◌, ℕ, ◌+◌, ◌≤◌, ◌<◌, length, Option, Some, None}
 use Rattle.marking.specs.Ids.{ids_in}
 use Rattle.paper.specs.Bounds.{most_walked}
 use Rattle.paper.specs.Metadata.{Dictionary}
@@ -7,8 +7,6 @@ use Rattle.paper.specs.Values.{meaning_of}
 use Rattle.paper.specs.Words.{is_there, all_below}
 use Rattle.writing.specs.Ends.{EndsAt}
 use Rattle.writing.specs.Rewritten.{rewritten}
-use Rattle.putting.specs.declared.Put.{Put}
-use Rattle.putting.specs.declared.Put.TheVariants.{At, Full}
 
 -- There is room from a floor up to a place.
 pub record Room (out : List ℕ) (floor end : ℕ) : Type 0 where
@@ -25,6 +23,6 @@ pub record Leftover (levels : ℕ) (s ranks : List ℕ) (floor : ℕ) : Type 0 w
   pub below : length (rewritten levels ranks s) ≤ floor
 
 -- Bytes stand so that they end at a place, and start at the floor at the lowest; or they would reach below it.
-pub data PutAs (bytes before after : List ℕ) (floor end : ℕ) : Put → Type 0 where
-  put : (start : ℕ) → floor ≤ start → EndsAt bytes before after end start → PutAs bytes before after floor end (At start)
-  full : end < floor + length bytes → PutAs bytes before after floor end Full
+pub data PutAs (bytes before after : List ℕ) (floor end : ℕ) : Option ℕ → Type 0 where
+  put : (start : ℕ) → floor ≤ start → EndsAt bytes before after end start → PutAs bytes before after floor end (Some start)
+  full : end < floor + length bytes → PutAs bytes before after floor end None

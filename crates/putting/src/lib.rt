@@ -4,7 +4,6 @@
 #![tactic(auto)]
 
 ghost use Rattle.std.specs.Prelude.{◌≡◌, length};
-ghost use Rattle.heads.specs.Packing.{Readings};
 ghost use Rattle.writing.specs.Rewritten.{rewritten};
 ghost use Rattle.putting.specs.Put.{Room, PutAs, Leftover};
 
@@ -12,32 +11,26 @@ mod container;
 mod scalars;
 
 pub use container::{array, object};
+use heads::Readings;
 pub use scalars::{cell, null};
-
-// Where a part starts; or it would reach below the floor.
-#[derive(Clone, Copy)]
-pub enum Put {
-    At(usize),
-    Full,
-}
 
 // Puts a leftover's normal form. The floor is at least as high as that is long, so it can be written before its length is
 // known.
 pub fn leftover(
     levels: usize,
-    readings: &[u8],
+    readings: &Readings,
     ranks: &[u16],
     s: &[u8],
     out: &mut [u8],
     floor: usize,
     end: usize,
-) -> Put
-    requires { Readings readings.now × Room out.old floor end × Leftover levels s.now ranks.now floor }
+) -> Option<usize>
+    requires { Room out.old floor end × Leftover levels s.now ranks.now floor }
     ensures { PutAs (rewritten levels ranks.now s.now) out.old out.new floor end result }
 {
     let start = writing::written(levels, readings, ranks, s, out, end);
     if start < floor {
-        return Put::Full;
+        return None;
     }
-    Put::At(start)
+    Some(start)
 }

@@ -15,7 +15,7 @@ use Rattle.paper.specs.Normal.{id_of}
 use Rattle.paper.specs.Values.{names_at}
 use Rattle.paper.specs.Words.{same, among, all_below}
 use Rattle.ranking.specs.Ranks.{never_falls, RanksOf, Folded}
-use Rattle.dictionary.proofs.NumbersRunLaws.{below_at}
+use Rattle.runs.proofs.NumbersRunLaws.{below_at}
 use Rattle.names.proofs.IdLaws.{id_place}
 use Rattle.names.proofs.SameLaws.{same_refl, same_is, among_at}
 use Rattle.order.proofs.OrderLaws.{before_total}

@@ -1,7 +1,7 @@
 -- A run in two parts: each by itself, and the two together again.
 use mathlib.Core.Bool.{true}
 use mathlib.Core.List.{List, ◌++◌}
-use mathlib.Core.Path.{◌≡◌, refl, sym}
+use mathlib.Core.Path.{◌≡◌, refl, sym, ap, ◌∙◌}
 use Prim.Native.Nat.{ℕ, ◌+◌, ◌-◌, ◌≤◌}
 use native.Mathlib.Omega.{arith}
 use lib.ListN.{length, take, drop, length-drop, take-append-drop}
@@ -9,7 +9,7 @@ use lib.Seq.{length-take-le, take_at}
 use Rattle.paper.specs.Metadata.{Dictionary}
 use Rattle.paper.specs.Words.{all_below}
 use Rattle.ranking.specs.Merging.{merged}
-use Rattle.dictionary.proofs.NumbersRunLaws.{rest_is}
+use Rattle.runs.proofs.NumbersRunLaws.{rest_is}
 use Rattle.ranking.proofs.HeldLaws.{below_both}
 
 -- ---- the two parts
@@ -29,14 +29,17 @@ module _ (ids : List ℕ) (half : ℕ) where
 
 -- ---- a run that was copied to the front of a table
 
-module _ (ids spare after : List ℕ) (copied : after ≡ ids ++ drop (length ids) spare) where
-  pub copied_front : take (length ids) after ≡ ids
-  copied_front = rw copied (take_at ids (drop (length ids) spare) (length ids) refl)
+module _ (ids spare front : List ℕ) (copied : front ≡ ids) where
+  pub copied_front : take (length ids) (front ++ drop (length ids) spare) ≡ ids
+  copied_front = take_at front (drop (length ids) spare) (length ids) (ap length copied) ∙ copied
 
   pub copied_merged : (names : Dictionary) (half : ℕ) {out : List ℕ}
-      → out ≡ merged names (take half (take (length ids) after)) (drop half (take (length ids) after)) → out ≡ merged names (take half ids) (drop half ids)
+      → out ≡ merged names (take half (take (length ids) (front ++ drop (length ids) spare))) (drop half (take (length ids) (front ++ drop (length ids) spare)))
+      → out ≡ merged names (take half ids) (drop half ids)
   copied_merged names half e = rw copied_front at e
 
   pub copied_fits : (bound half : ℕ) → all_below bound ids ≡ true → half ≤ length ids
-      → (all_below bound (take (length ids) after) ≡ true) × (length ids ≡ length (take (length ids) after)) × (half ≤ length (take (length ids) after))
+      → (all_below bound (take (length ids) (front ++ drop (length ids) spare)) ≡ true)
+      × (length ids ≡ length (take (length ids) (front ++ drop (length ids) spare)))
+      × (half ≤ length (take (length ids) (front ++ drop (length ids) spare)))
   copied_fits bound half below h = rw copied_front (below, refl, h)

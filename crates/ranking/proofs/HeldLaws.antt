@@ -3,7 +3,7 @@ use mathlib.Core.Bool.{Bool, true, false, ◌||◌}
 use mathlib.Core.List.{List, [], ◌∷◌, ◌++◌}
 use mathlib.Core.Logic.{◌⊎◌, inl, inr}
 use mathlib.Core.Path.{◌≡◌, refl, sym, ap, ◌∙◌}
-use Prim.Native.Nat.{ℕ, zero, suc, ◌+◌, ◌<◌}
+use Prim.Native.Nat.{ℕ, zero, suc, ◌<◌}
 use native.Mathlib.Omega.{arith}
 use borrow.Author.Tests.{ltb-true, lt-ltb, eq-eqb, eqb-true}
 use lib.Dec.{ltb, eqb}
@@ -12,7 +12,7 @@ use Rattle.paper.specs.Metadata.{Dictionary}
 use Rattle.paper.specs.Values.{names_at}
 use Rattle.paper.specs.Words.{among, all_below}
 use Rattle.marking.specs.Ids.{holds}
-use Rattle.dictionary.proofs.NumbersRunLaws.{below_at}
+use Rattle.runs.proofs.NumbersRunLaws.{below_at}
 use Rattle.names.proofs.SameLaws.{or_either, or_second, among_first, among_more, among_either}
 use Rattle.paper.proofs.WordLaws.{never, and_both}
 

@@ -7,8 +7,6 @@ pub mod FoldLaws
 pub mod OrderedLaws
 pub mod MergeLaws
 pub mod SortLaws
-pub mod CopyLaws
-pub mod OpenedLaws
 pub mod HalfLaws
 pub mod SortedHalfLaws
 pub mod RankLaws

@@ -11,7 +11,7 @@ use Rattle.order.specs.Before.{before}
 use Rattle.paper.specs.Metadata.{Dictionary, rising}
 use Rattle.paper.specs.Values.{names_at}
 use Rattle.paper.specs.Words.{all_below}
-use Rattle.dictionary.proofs.NumbersRunLaws.{below_at}
+use Rattle.runs.proofs.NumbersRunLaws.{below_at}
 
 pub ordered_none : (names : Dictionary) (ids : List ℕ) → length ids ≡ 0 → true ≡ rising (names_at names ids)
 unfolding rising names_at

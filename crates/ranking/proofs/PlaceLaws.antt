@@ -16,7 +16,7 @@ use Rattle.paper.specs.Values.{names_at}
 use Rattle.paper.specs.Words.{all_below}
 use Rattle.marking.specs.Ids.{holds}
 use Rattle.ranking.specs.Ranks.{RanksOf}
-use Rattle.dictionary.proofs.NumbersRunLaws.{below_at}
+use Rattle.runs.proofs.NumbersRunLaws.{below_at}
 use Rattle.names.proofs.IdLaws.{id_place}
 use Rattle.paper.proofs.WordLaws.{never}
 use Rattle.ranking.proofs.HeldLaws.{held_behind, names_length, names_place}

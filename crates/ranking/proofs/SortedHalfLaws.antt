@@ -11,7 +11,7 @@ use Rattle.paper.specs.Metadata.{Dictionary}
 use Rattle.paper.specs.Words.{all_below}
 use Rattle.ranking.specs.Merging.{merged}
 use Rattle.ranking.specs.Ranks.{Sorted}
-use Rattle.dictionary.proofs.NumbersRunLaws.{rest_is}
+use Rattle.runs.proofs.NumbersRunLaws.{rest_is}
 use Rattle.ranking.proofs.HeldLaws.{below_both, below_join}
 use Rattle.ranking.proofs.SortLaws.{sort_few, sort_merged, sorted_below}
 

@@ -1,5 +1,5 @@
 -- Normal ids: the used ids of a dictionary, one for each name, in the order of their names.
-use Rattle.std.specs.Prelude.{Bool, true, false, cond, not, ◌&&◌, ◌||◌, List, [], ◌∷◌, ◌++◌, ◌≡◌, ℕ, zero, suc, ◌≤◌, ◌<◌, eqb, length, get_or, take}
+use Rattle.std.specs.Prelude.{Bool, true, cond, not, ◌&&◌, List, [], ◌∷◌, ◌++◌, ◌≡◌, ℕ, zero, suc, ◌≤◌, ◌<◌, eqb, length, get_or, take}
 use Rattle.marking.specs.Ids.{holds}
 use Rattle.order.specs.Before.{before}
 use Rattle.paper.specs.Metadata.{Dictionary, rising}

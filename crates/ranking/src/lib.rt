@@ -1,7 +1,5 @@
 // Normal ids for the names used: the used ids of a dictionary are put in the order of their names, one for each name, and
 // each used id gets the place of its name among them.
-//
-// The functions with a `requires` are inner ones: whoever calls them has had the metadata judged.
 #![tactic(auto)]
 
 mod ranks;

@@ -1,31 +1,33 @@
 -- A row that was judged lawful: what the gathering of its ids asks, and, with these marked and ranked, what the writing of its
 -- document asks and what is then written.
+use Rattle.std.specs.Prelude.{Some, Option}
 use mathlib.Core.List.{List}
-use mathlib.Core.Option.{some}
 use mathlib.Core.Path.{◌≡◌, sym, ap, subst, ◌∙◌}
-use Prim.Native.Nat.{ℕ, ◌+◌, ◌≤◌}
+use Prim.Native.Nat.{ℕ, ◌+◌, ◌*◌, ◌≤◌}
+use native.Mathlib.Nat.{mul-le-mul, mul-one}
 use native.Mathlib.Omega.{arith}
-use lib.ListN.{length, replicate, length-take, length-drop}
+use lib.ListN.{length, replicate, take, length-take, length-drop}
 use Rattle.building.proofs.MemberLaws.{part_bytes}
 use Rattle.building.specs.Building.{Bytes, Enough, PlaceReady}
-use Rattle.dictionary.proofs.DictionaryLaws.{opened_names}
+use Rattle.dictionary.proofs.LentLaws.{lent_dictionary, lent_size}
+use Rattle.dictionary.specs.Lent.{LentNames, Lent}
 use Rattle.gathering.specs.Gathering.{PlaceReady as Gatherable}
 use Rattle.marking.specs.Ids.{mark_ids}
-use Rattle.names.proofs.FewLaws.{count_is, names_few}
-use Rattle.names.proofs.NeverLongerLaws.{never_longer}
+use Rattle.names.proofs.NeverLongerLaws.{never_longer, read_length}
 use Rattle.names.proofs.UsedLaws.{names_rise}
+use Rattle.naming.specs.Chosen.{chosen_names}
 use Rattle.normalise.proofs.NumberedLaws.{picked_among, picked_chosen}
 use Rattle.paper.proofs.WordLaws.{there_some}
 use Rattle.paper.specs.Bounds.{most_names}
 use Rattle.paper.specs.Limits.{most_levels, most_metadata}
 use Rattle.paper.specs.Meaning.{Doc}
-use Rattle.paper.specs.Metadata.{Dictionary, names_in}
+use Rattle.paper.specs.Metadata.{Dictionary, offset_size}
 use Rattle.paper.specs.Normal.{names_used, metadata_bytes, value_bytes, normal_form}
 use Rattle.paper.specs.Schemas.{Schema, schema_of}
+use Rattle.paper.specs.Words.{at, part}
 use Rattle.places.specs.Verdicts.{place_verdict}
 use Rattle.places.specs.declared.verdicts.Verdict.TheVariants.{Lawful}
 use Rattle.putting.specs.Put.{PutAs}
-use Rattle.putting.specs.declared.Put.{Put}
 use Rattle.ranking.specs.Ranks.{Ranked}
 use Rattle.rebuilt.proofs.ChosenLaws.{row_chosen, row_numbered}
 use Rattle.rebuilt.proofs.RebuiltLaws.{place_rebuilt_lem}
@@ -34,32 +36,43 @@ use Rattle.rebuilt.specs.Meant.{place_doc}
 use Rattle.rebuilt.specs.Rebuilt.{place_rebuilt}
 use Rattle.rebuilt.specs.There.{PlaceThere, Numbered as NumberedIds}
 use Rattle.rebuilt.specs.Using.{place_ids}
-use Rattle.rows.specs.Judging.{metadata_of, outermost_of}
 use Rattle.rows.specs.declared.judging.RowParts.{RowParts}
 use Rattle.schemas.proofs.StandingLaws.{schema_stands}
 use Rattle.schemas.specs.Positions.{Stands}
-use Rattle.rebuild.specs.Rebuilding.{Judged, doc_under, row_doc, Numbered}
+use Rattle.rebuild.specs.Rebuilding.{Judged, doc_under, row_doc}
+use Rattle.rebuild.specs.Numbering.{Numbered}
 
 -- ---- a row that was judged lawful
 
+-- Each name takes an offset, so a dictionary has no more names than its metadata has bytes.
+few_names : {d : LentNames} → Lent d → d.size ≤ most_metadata → length d.names ≤ most_names
+unfolding offset_size
+few_names {d} lent short =
+    let all = read_length lent.metadata d.names (lent_dictionary lent) in
+    let one : (length d.names + 1) * 1 ≤ (length d.names + 1) * offset_size (at lent.metadata 0) = mul-le-mul (omega arith) (omega arith) in
+    let same = mul-one (length d.names + 1) in
+    let size = lent_size lent in
+    omega arith
+
 -- Under its schema's node, what a row means.
-doc_under_lem : (schema row : List ℕ) (parts : RowParts) (node : Schema) → schema_of schema ≡ some node
-    → row_doc schema row parts ≡ place_doc node most_levels (names_in (metadata_of row parts)) (outermost_of row parts)
+doc_under_lem : (schema : List ℕ) (row : RowParts) (node : Schema) → schema_of schema ≡ Some node
+    → row_doc schema row ≡ place_doc node most_levels row.dictionary.names row.outermost.now
 unfolding row_doc doc_under
-doc_under_lem schema row parts node is = rw is
+doc_under_lem schema row node is = rw is
 
--- Its outermost place is no longer than the row.
-pub outermost_short : (row : List ℕ) (parts : RowParts) → length (outermost_of row parts) ≤ length row
-outermost_short row parts = rw (length-take, length-drop) (omega arith)
+module _ {schema table : List ℕ} {row : RowParts} (judged : Judged schema row table) where
+  -- Its outermost place is no longer than the row.
+  pub outermost_short : length row.outermost.now ≤ length judged.bytes
+  outermost_short = rw (judged.handed.in_order.holds, length-take, length-drop) (omega arith)
 
-module _ {schema row table : List ℕ} {parts : RowParts} (judged : Judged schema row table parts) where
-  abbrev Names : Dictionary
-  Names = names_in (metadata_of row parts)
+  -- Its metadata opens to its dictionary.
+  pub lent : Lent row.dictionary
+  lent = record { metadata = part judged.bytes 3 judged.handed.in_order.middle; opens = judged.handed.in_order.opens }
 
-  pub place_lawful_lem : (node : Schema) → schema_of schema ≡ some node → place_verdict node most_levels Names (outermost_of row parts) ≡ Lawful
+  pub place_lawful_lem : (node : Schema) → schema_of schema ≡ Some node → place_verdict node most_levels row.dictionary.names row.outermost.now ≡ Lawful
   place_lawful_lem node is = judged.handed.in_order.comes_to node ∙ judged.lawful node is
 
-  pub row_there : PlaceThere most_levels Names schema table 0 (outermost_of row parts)
+  pub row_there : PlaceThere most_levels row.dictionary.names schema table 0 row.outermost.now
   row_there =
       let got = there_some (schema_of schema) judged.good in
       record {
@@ -70,83 +83,87 @@ module _ {schema row table : List ℕ} {parts : RowParts} (judged : Judged schem
         lawful = place_lawful_lem got.0 got.1;
       }
 
-  names_are : parts.names.count ≡ length Names
-  names_are = count_is judged.handed.in_order.opened
-
-  pub count_few : parts.names.count ≤ most_names
-  count_few = names_few judged.handed.in_order.opened judged.handed.in_order.short
+  pub count_few : length row.dictionary.names ≤ most_names
+  count_few = few_names lent judged.handed.in_order.short
 
   -- what the gathering asks, of a table that has an entry for each name
-  pub gatherable : (size : ℕ) → parts.names.count ≤ size → Gatherable most_levels schema table 0 (outermost_of row parts) size
+  pub gatherable : (size : ℕ) → length row.dictionary.names ≤ size → Gatherable most_levels schema table 0 row.outermost.now size
   gatherable size room =
-      let is = names_are in
-      let within = outermost_short row parts in
+      let within = outermost_short in
       let short = judged.row_short in
-      record { names = Names; there = row_there; room = omega arith; small = omega arith }
+      record { names = row.dictionary.names; there = row_there; room = omega arith; small = omega arith }
 
-  pub numbered : Bytes row → {before used : List ℕ}
-      → ((under : Schema) → Stands most_levels schema 0 under → used ≡ mark_ids before (place_ids under most_levels schema table 0 (outermost_of row parts)))
-      → before ≡ replicate (length before) 0 → parts.names.count ≤ length before
-      → {ranks chosen : List ℕ} {picked : ℕ} → Ranked Names used ranks chosen picked
-      → parts.names.count ≤ length ranks → parts.names.count ≤ length chosen → Numbered schema row table parts ranks chosen picked
-  numbered bytes {before} {used} marks clean room {ranks} {chosen} {picked} ranked ranks_room chosen-room =
-      let here = judged.handed.in_order in
-      let got = there_some (schema_of schema) judged.good in
-      record {
-        judged = judged;
-        choice = picked_chosen here.opened here.short ranked chosen-room;
-        used =
-            row_chosen got.0 most_levels Names schema table 0 body (judged.handed.told got.0 got.1) (place_lawful_lem got.0 got.1)
-            (length before) (omega (arith, names_are)) used (marked got.0 got.1) ranks chosen picked ranked
-            ∙ ap names_used (sym (doc_under_lem schema row parts got.0 got.1));
-        ranked = ranks_room;
-        numbered =
-            λ under is.
-            subst (λ (d : Doc). NumberedIds Names (names_used d) ranks (place_ids under most_levels schema table 0 body)) (sym (doc_under_lem schema row parts under is))
-            (row_numbered under most_levels Names schema table 0 body (judged.handed.told under is) (place_lawful_lem under is)
-            (length before) (omega (arith, names_are)) used (marked under is) ranks chosen picked ranked
-            (omega (arith, names_are, count_few)) (omega (arith, names_are)));
-        bytes = part_bytes row bytes (parts.middle + 3) (length row);
-      }
-    where
-      body : List ℕ
-      body = outermost_of row parts
+  module _ {before used : List ℕ}
+      (marks : (under : Schema) → Stands most_levels schema 0 under → used ≡ mark_ids before (place_ids under most_levels schema table 0 row.outermost.now))
+      (clean : before ≡ replicate (length before) 0) (room : length row.dictionary.names ≤ length before)
+      {ranks chosen : List ℕ} {picked : ℕ} (ranked : Ranked row.dictionary.names used ranks chosen picked) where
+    abbrev Names : Dictionary
+    Names = row.dictionary.names
 
-      marked : (under : Schema) → schema_of schema ≡ some under → used ≡ mark_ids (replicate (length before) 0) (place_ids under most_levels schema table 0 body)
-      marked under is = marks under (schema_stands schema under is).0 ∙ ap (λ (l : List ℕ). mark_ids l (place_ids under most_levels schema table 0 body)) clean
+    abbrev body : List ℕ
+    body = row.outermost.now
+
+    marked : (under : Schema) → schema_of schema ≡ Some under → used ≡ mark_ids (replicate (length before) 0) (place_ids under most_levels schema table 0 body)
+    marked under is = marks under (schema_stands schema under is).0 ∙ ap (λ (l : List ℕ). mark_ids l (place_ids under most_levels schema table 0 body)) clean
+
+    names_chosen : chosen_names Names (take picked chosen) ≡ names_used (row_doc schema row)
+    names_chosen =
+        let got = there_some (schema_of schema) judged.good in
+        row_chosen got.0 most_levels Names schema table 0 body (judged.handed.told got.0 got.1) (place_lawful_lem got.0 got.1)
+        (length before) room used (marked got.0 got.1) ranks chosen picked ranked
+        ∙ ap names_used (sym (doc_under_lem schema row got.0 got.1))
+
+    ids_numbered : length Names ≤ length ranks → (under : Schema) → schema_of schema ≡ Some under
+        → NumberedIds Names (names_used (row_doc schema row)) ranks (place_ids under most_levels schema table 0 body)
+    ids_numbered ranks_room under is =
+        subst (λ (d : Doc). NumberedIds Names (names_used d) ranks (place_ids under most_levels schema table 0 body)) (sym (doc_under_lem schema row under is))
+        (row_numbered under most_levels Names schema table 0 body (judged.handed.told under is) (place_lawful_lem under is)
+        (length before) room used (marked under is) ranks chosen picked ranked count_few ranks_room)
+
+    pub numbered : Bytes body → length Names ≤ length ranks → Numbered schema row table ranks (take picked chosen)
+    numbered bytes ranks_room =
+        record {
+          judged = judged;
+          choice = picked_chosen lent judged.handed.in_order.short ranked;
+          used = names_chosen;
+          ranked = ranks_room;
+          numbered = ids_numbered ranks_room;
+          bytes = bytes;
+        }
 
   -- The names used are names of the row's dictionary, so the normal metadata is no longer than the row's.
-  pub metadata_fits : Bytes row → length (normal_form (row_doc schema row parts)).metadata ≤ most_metadata
-  unfolding normal_form
+  pub metadata_fits : Bytes judged.bytes → length (normal_form (row_doc schema row)).metadata ≤ most_metadata
+  unfolding normal_form lent
   metadata_fits bytes =
       let got = there_some (schema_of schema) judged.good in
       let here = judged.handed.in_order in
       let told = judged.handed.told got.0 got.1 in
       let lawful = place_lawful_lem got.0 got.1 in
-      let d : Doc = place_doc got.0 most_levels Names (outermost_of row parts) in
-      let below = place_ids-below got.0 most_levels Names schema table 0 (outermost_of row parts) told lawful in
-      let used = place_ids-used got.0 most_levels Names schema table 0 (outermost_of row parts) told lawful in
-      let shorter : length (metadata_bytes (names_used d)) ≤ length (metadata_of row parts) =
-      never_longer (metadata_of row parts) Names (opened_names here.opened) (part_bytes row bytes 3 parts.middle) (names_used d) (names_rise d)
-      (λ name e. picked_among Names _ below name (used name ∙ e)) in
+      let names : Dictionary = row.dictionary.names in
+      let d : Doc = place_doc got.0 most_levels names row.outermost.now in
+      let below = place_ids-below got.0 most_levels names schema table 0 row.outermost.now told lawful in
+      let used = place_ids-used got.0 most_levels names schema table 0 row.outermost.now told lawful in
+      let shorter : length (metadata_bytes (names_used d)) ≤ length lent.metadata =
+      never_longer lent.metadata names (lent_dictionary lent) (part_bytes judged.bytes bytes 3 here.middle) (names_used d) (names_rise d)
+      (λ name e. picked_among names _ below name (used name ∙ e)) in
       let short = here.short in
-      rw (doc_under_lem schema row parts got.0 got.1) (omega arith)
+      let size = lent_size lent in
+      rw (doc_under_lem schema row got.0 got.1) (omega arith)
 
 -- ---- numbered: what the writing asks, and what is written
 
-module _ {schema row table : List ℕ} {parts : RowParts} {ranks chosen : List ℕ} {count : ℕ} (n : Numbered schema row table parts ranks chosen count) where
-  pub place_ready_lem : {places ids floor : ℕ} → Enough (length (outermost_of row parts)) places ids floor
-      → PlaceReady most_levels ranks schema table 0 (outermost_of row parts) places ids floor
+module _ {schema : List ℕ} {row : RowParts} {table ranks chosen : List ℕ} (n : Numbered schema row table ranks chosen) where
+  pub place_ready_lem : {places ids floor : ℕ} → Enough (length row.outermost.now) places ids floor
+      → PlaceReady most_levels ranks schema table 0 row.outermost.now places ids floor
   unfolding row_there
   place_ready_lem enough =
-      let is = names_are n.judged in
       let few = count_few n.judged in
       let room = n.ranked in
       let there = row_there n.judged in
       record {
-        names = names_in (metadata_of row parts);
-        normal = names_used (row_doc schema row parts);
-        ground = record { few = omega arith; ranked = omega arith; schema_short = n.judged.schema_short };
+        names = row.dictionary.names;
+        normal = names_used (row_doc schema row);
+        ground = record { few = few; ranked = room; schema_short = n.judged.schema_short };
         there = there;
         numbered = n.numbered there.under (there_some (schema_of schema) n.judged.good).1;
         bytes = n.bytes;
@@ -154,21 +171,21 @@ module _ {schema row table : List ℕ} {parts : RowParts} {ranks chosen : List �
       }
 
   -- What is rebuilt is the document's value in normal form.
-  rebuilt_is : (node : Schema) → schema_of schema ≡ some node
-      → place_rebuilt node most_levels ranks schema table 0 (outermost_of row parts) ≡ (normal_form (row_doc schema row parts)).value
+  rebuilt_is : (node : Schema) → schema_of schema ≡ Some node
+      → place_rebuilt node most_levels ranks schema table 0 row.outermost.now ≡ (normal_form (row_doc schema row)).value
   unfolding normal_form
   rebuilt_is node is =
-      let within = outermost_short row parts in
+      let within = outermost_short n.judged in
       let short = n.judged.row_short in
-      place_rebuilt_lem node most_levels (names_in (metadata_of row parts)) (names_used (row_doc schema row parts)) ranks schema table 0 (outermost_of row parts)
-      (schema_stands schema node is).0 (n.judged.handed.told node is) (place_lawful_lem n.judged node is) (names_rise (row_doc schema row parts))
+      place_rebuilt_lem node most_levels row.dictionary.names (names_used (row_doc schema row)) ranks schema table 0 row.outermost.now
+      (schema_stands schema node is).0 (n.judged.handed.told node is) (place_lawful_lem n.judged node is) (names_rise (row_doc schema row))
       (n.numbered node is) n.bytes (omega arith)
-      ∙ ap (value_bytes (names_used (row_doc schema row parts))) (sym (doc_under_lem schema row parts node is))
+      ∙ ap (value_bytes (names_used (row_doc schema row))) (sym (doc_under_lem schema row node is))
 
-  pub value_put : {before after : List ℕ} {floor end : ℕ} {r : Put}
+  pub value_put : {before after : List ℕ} {floor end : ℕ} {r : Option ℕ}
       → ((under : Schema) → Stands most_levels schema 0 under
-      → PutAs (place_rebuilt under most_levels ranks schema table 0 (outermost_of row parts)) before after floor end r)
-      → PutAs (normal_form (row_doc schema row parts)).value before after floor end r
+      → PutAs (place_rebuilt under most_levels ranks schema table 0 row.outermost.now) before after floor end r)
+      → PutAs (normal_form (row_doc schema row)).value before after floor end r
   value_put {before} {after} {floor} {end} {r} put =
       let got = there_some (schema_of schema) n.judged.good in
       subst (λ (bytes : List ℕ). PutAs bytes before after floor end r) (rebuilt_is got.0 got.1) (put got.0 (schema_stands schema got.0 got.1).0)

@@ -6,29 +6,49 @@
 
 mod rooms;
 
-ghost use Rattle.std.proofs.Math.Option.{some};
-ghost use Rattle.std.specs.Prelude.{◌≡◌, ◌≤◌, length, replicate};
+ghost use Rattle.std.specs.Prelude.{List, ℕ, ◌≡◌, ◌≤◌, length, replicate};
+ghost use Rattle.building.specs.Building.{Bytes};
+ghost use Rattle.gathering.specs.Gathering.{PlaceReady};
+ghost use Rattle.marking.specs.Ids.{mark_ids};
 ghost use Rattle.normalise.specs.Answered.{Answered};
+ghost use Rattle.paper.specs.Bounds.{most_walked};
+ghost use Rattle.paper.specs.Limits.{most_levels};
 ghost use Rattle.paper.specs.Operations.{written};
 ghost use Rattle.paper.specs.Rebuilding.{row_meaning};
 ghost use Rattle.paper.specs.Rows.{Row, row_of};
 ghost use Rattle.paper.specs.Schemas.{Schema, schema_of};
 ghost use Rattle.places.specs.Parts.{parts_of};
 ghost use Rattle.places.specs.declared.parts.Parts.TheVariants.{Typed};
-ghost use Rattle.rows.specs.Judging.{outermost_of};
+ghost use Rattle.rebuilt.specs.Using.{place_ids};
+ghost use Rattle.rows.specs.Judging.{InOrder};
+ghost use Rattle.schemas.specs.Positions.{Stands};
 ghost use Rattle.rebuild.specs.Rebuilding.{Judged, row_doc};
 
-use crate::rooms::with_room;
+use crate::rooms::{NumberedRow, with_room};
+use heads::Readings;
 use paper::DocumentAnswer;
 use places::Parts;
 use rows::RowParts;
 use schemas::Kind;
 
+// Marks the ids that an outermost place uses. What it holds are bytes.
+fn mark_used(readings: &Readings, schema: &[u8], table: &[u16], outermost: &[u8], used: &mut [u8])
+    requires { PlaceReady most_levels schema.now table.now 0 outermost.now (length used.old) }
+    ensures marks { (under : Schema) → Stands most_levels schema.now 0 under → used.new ≡ mark_ids used.old (place_ids under most_levels schema.now table.now 0 outermost.now) }
+    ensures bytes { Bytes outermost.now }
+{
+    let walk = gathering::Walk {
+        readings,
+        schema,
+        table,
+    };
+    walk.place(paper::MOST_LEVELS, 0, outermost, used);
+}
+
 // Numbers the names that the row uses, in tables that have an entry for each name of its dictionary.
 fn with_tables(
     schema: &[u8],
-    row: &[u8],
-    parts: RowParts,
+    row: &RowParts,
     table: &[u16],
     used: &mut [u8],
     ranks: &mut [u16],
@@ -36,73 +56,40 @@ fn with_tables(
     metadata_out: &mut [u8],
     value_out: &mut [u8],
 ) -> DocumentAnswer
-    requires { Judged schema.now row.now table.now parts × (parts.names.count ≤ length used.old) × (parts.names.count ≤ length ranks.old) × (parts.names.count ≤ length chosen.old) × (used.old ≡ replicate (length used.old) 0) }
-    ensures { Answered (written (row_doc schema.now row.now parts)) metadata_out.old metadata_out.new value_out.old value_out.new result }
+    requires { Judged schema.now row.now table.now × (length row.now.dictionary.names ≤ length used.old) × (length row.now.dictionary.names ≤ length ranks.old) × (length row.now.dictionary.names ≤ length chosen.old) × (used.old ≡ replicate (length used.old) 0) }
+    ensures { Answered (written (row_doc schema.now row.now)) metadata_out.old metadata_out.new value_out.old value_out.new result }
 {
-    let readings = heads::READINGS;
-    let middle = parts.middle;
-    let inner = middle + 3;
-    let last = row.len();
-    gathering::place(
-        paper::MOST_LEVELS,
-        &readings,
-        schema,
-        table,
-        0,
-        &row[inner..last],
-        used,
-    );
-    let count = ranking::rank(&row[3..middle], parts.names, used, ranks, chosen);
-    with_room(
-        &readings,
+    let readings = Readings::new();
+    mark_used(&readings, schema, table, row.outermost, used);
+    let count = ranking::rank(&row.dictionary, used, ranks, chosen);
+    let numbered = NumberedRow {
+        readings: &readings,
         schema,
         row,
-        parts,
         table,
         ranks,
-        chosen,
-        count,
-        metadata_out,
-        value_out,
-    )
+        chosen: &chosen[..count],
+    };
+    with_room(&numbered, metadata_out, value_out)
 }
 
-// With tables for more names than a few.
-fn for_more_names(
+// Writes by way of tables of N entries.
+fn in_tables<const N: usize>(
     schema: &[u8],
-    row: &[u8],
-    parts: RowParts,
+    row: &RowParts,
     table: &[u16],
     metadata_out: &mut [u8],
     value_out: &mut [u8],
 ) -> DocumentAnswer
-    requires { Judged schema.now row.now table.now parts }
-    ensures { Answered (written (row_doc schema.now row.now parts)) metadata_out.old metadata_out.new value_out.old value_out.new result }
+    requires { Judged schema.now row.now table.now × (length row.now.dictionary.names ≤ N) × (N ≤ most_walked) }
+    ensures { Answered (written (row_doc schema.now row.now)) metadata_out.old metadata_out.new value_out.old value_out.new result }
 {
-    let names = parts.names;
-    if names.count <= 1024 {
-        let mut used = [0u8; 1024];
-        let mut ranks = [0u16; 1024];
-        let mut chosen = [0u16; 1024];
-        return with_tables(
-            schema,
-            row,
-            parts,
-            table,
-            &mut used,
-            &mut ranks,
-            &mut chosen,
-            metadata_out,
-            value_out,
-        );
-    }
-    let mut used = [0u8; 16384];
-    let mut ranks = [0u16; 16384];
-    let mut chosen = [0u16; 16384];
+    let mut used = [0u8; N];
+    let mut ranks = [0u16; N];
+    let mut chosen = [0u16; N];
     with_tables(
         schema,
         row,
-        parts,
         table,
         &mut used,
         &mut ranks,
@@ -112,92 +99,64 @@ fn for_more_names(
     )
 }
 
-// Writes by way of tables, which go by the number of names in the row's dictionary.
+// The tables go by the number of names in the row's dictionary.
 fn by_tables(
     schema: &[u8],
-    row: &[u8],
-    parts: RowParts,
+    row: &RowParts,
     table: &[u16],
     metadata_out: &mut [u8],
     value_out: &mut [u8],
 ) -> DocumentAnswer
-    requires { Judged schema.now row.now table.now parts }
-    ensures { Answered (written (row_doc schema.now row.now parts)) metadata_out.old metadata_out.new value_out.old value_out.new result }
+    requires { Judged schema.now row.now table.now }
+    ensures { Answered (written (row_doc schema.now row.now)) metadata_out.old metadata_out.new value_out.old value_out.new result }
 {
-    let names = parts.names;
-    if names.count <= 64 {
-        let mut used = [0u8; 64];
-        let mut ranks = [0u16; 64];
-        let mut chosen = [0u16; 64];
-        return with_tables(
-            schema,
-            row,
-            parts,
-            table,
-            &mut used,
-            &mut ranks,
-            &mut chosen,
-            metadata_out,
-            value_out,
-        );
+    match row.dictionary.len() {
+        0..=64 => in_tables::<64>(schema, row, table, metadata_out, value_out),
+        65..=1024 => in_tables::<1024>(schema, row, table, metadata_out, value_out),
+        _ => in_tables::<16384>(schema, row, table, metadata_out, value_out),
     }
-    for_more_names(schema, row, parts, table, metadata_out, value_out)
 }
 
 // What is typed alone: a cell uses no names, so it needs no tables.
 fn typed_alone(
     schema: &[u8],
-    row: &[u8],
-    parts: RowParts,
+    row: &RowParts,
     table: &[u16],
     metadata_out: &mut [u8],
     value_out: &mut [u8],
 ) -> DocumentAnswer
-    requires { Judged schema.now row.now table.now parts × (parts_of (outermost_of row.now parts) ≡ Typed) }
-    ensures { Answered (written (row_doc schema.now row.now parts)) metadata_out.old metadata_out.new value_out.old value_out.new result }
+    requires { Judged schema.now row.now table.now × (parts_of row.now.outermost.now ≡ Typed) }
+    ensures { Answered (written (row_doc schema.now row.now)) metadata_out.old metadata_out.new value_out.old value_out.new result }
 {
     let Kind::Column(code) = schemas::kind_at(schema, 0) else {
-        return by_tables(schema, row, parts, table, metadata_out, value_out);
+        return by_tables(schema, row, table, metadata_out, value_out);
     };
-    let inner = parts.middle + 3;
-    let last = row.len();
-    let outermost = &row[inner..last];
-    let to = outermost.len();
-    lone::cell(code, &outermost[3..to], metadata_out, value_out)
+    lone::cell(code, &row.outermost[3..], metadata_out, value_out)
 }
 
 // Writes the document of a lawful row in its normal form. A row that is a leftover alone is that document, under the row's
 // metadata; an empty one is a null.
 pub fn rebuild(
     schema: &[u8],
-    row: &[u8],
-    parts: RowParts,
+    row: &RowParts,
     table: &[u16],
     metadata_out: &mut [u8],
     value_out: &mut [u8],
 ) -> DocumentAnswer
-    requires { Judged schema.now row.now table.now parts }
-    ensures { (node : Schema) (parsed : Row) → schema_of schema.now ≡ some node → row_of node row.now ≡ some parsed → Answered (written (row_meaning node parsed)) metadata_out.old metadata_out.new value_out.old value_out.new result }
+    requires { Judged schema.now row.now table.now }
+    ensures { (bytes : List ℕ) → InOrder bytes row.now → (node : Schema) (parsed : Row) → schema_of schema.now ≡ Some node → row_of node bytes ≡ Some parsed → Answered (written (row_meaning node parsed)) metadata_out.old metadata_out.new value_out.old value_out.new result }
 {
-    let middle = parts.middle;
-    let inner = middle + 3;
-    let last = row.len();
-    let outermost = &row[inner..last];
-    let held = places::split(outermost);
-    match held {
+    match places::split(row.outermost) {
         Parts::Empty => lone::null(metadata_out, value_out),
-        Parts::Leftover => {
-            let to = outermost.len();
-            normalise::normalise(
-                &row[3..middle],
-                parts.names,
-                &outermost[3..to],
-                metadata_out,
-                value_out,
-            )
+        Parts::Leftover => normalise::normalise(
+            &row.dictionary,
+            &row.outermost[3..],
+            metadata_out,
+            value_out,
+        ),
+        Parts::Typed => typed_alone(schema, row, table, metadata_out, value_out),
+        Parts::Both(_) | Parts::Unframed => {
+            by_tables(schema, row, table, metadata_out, value_out)
         }
-        Parts::Typed => typed_alone(schema, row, parts, table, metadata_out, value_out),
-        Parts::Both(_) => by_tables(schema, row, parts, table, metadata_out, value_out),
-        Parts::Unframed => by_tables(schema, row, parts, table, metadata_out, value_out),
     }
 }

@@ -1,315 +1,123 @@
-// The value written into a room, from its end towards its front, and handed out. Room goes by the row's length, so that a short
-// row does not pay for the longest one.
+// The value written into a room, from its end towards its front, and handed out. Room goes by the length of the row's outermost
+// place, so that a short row does not pay for the longest one.
 ghost use Rattle.std.specs.Prelude.{◌≤◌, length};
 ghost use Rattle.building.specs.Building.{Enough};
-ghost use Rattle.heads.specs.Packing.{Readings};
 ghost use Rattle.normalise.specs.Answered.{Answered};
 ghost use Rattle.paper.specs.Bounds.{most_walked};
 ghost use Rattle.paper.specs.Operations.{written};
-ghost use Rattle.rows.specs.Judging.{outermost_of};
-ghost use Rattle.rebuild.specs.Rebuilding.{Numbered, TriedAs, SomeTried, row_doc};
+ghost use Rattle.rebuild.specs.Numbering.{IsNumbered, doc_of, TriedAs, SomeTried};
 
+use building::Build;
+use heads::Readings;
 use normalise::hand_out;
-use paper::{DocumentAnswer, Refusal};
-use putting::Put;
+use paper::{DocumentAnswer, Refusal, Unwritten};
 use rows::RowParts;
 
-// What came of a room: the answer, or the room is too short for the value.
-#[derive(Clone, Copy)]
-enum Tried {
-    Told(DocumentAnswer),
-    NoRoom,
+// A lawful row, each schema field's id in its dictionary, and its names numbered: each id's rank, and the ids chosen.
+#[derive(Drop)]
+pub struct NumberedRow<'a> {
+    pub readings: &'a Readings,
+    pub schema: &'a [u8],
+    pub row: &'a RowParts<'a>,
+    pub table: &'a [u16],
+    pub ranks: &'a [u16],
+    pub chosen: &'a [u16],
 }
 
 // Writes the value at the end of a room, above its floor, and hands it out.
 fn write_out(
-    readings: &[u8],
-    schema: &[u8],
-    row: &[u8],
-    parts: RowParts,
-    table: &[u16],
-    ranks: &[u16],
-    chosen: &[u16],
-    count: usize,
+    numbered: &NumberedRow,
     places: &mut [u16],
     ids: &mut [u8],
     room: &mut [u8],
     floor: usize,
     metadata_out: &mut [u8],
     value_out: &mut [u8],
-) -> Tried
-    requires { Readings readings.now × Numbered schema.now row.now table.now parts ranks.now chosen.now count × Enough (length (outermost_of row.now parts)) (length places.old) (length ids.old) floor × (floor ≤ length room.old) × (length room.old ≤ most_walked) }
-    ensures { TriedAs (row_doc schema.now row.now parts) metadata_out.old metadata_out.new value_out.old value_out.new (length room.old) floor result }
+) -> Option<DocumentAnswer>
+    requires { IsNumbered numbered.now × Enough (length numbered.now.row.now.outermost.now) (length places.old) (length ids.old) floor × (floor ≤ length room.old) × (length room.old ≤ most_walked) }
+    ensures { TriedAs (doc_of numbered.now) metadata_out.old metadata_out.new value_out.old value_out.new (length room.old) floor result }
 {
-    let middle = parts.middle;
-    let inner = middle + 3;
-    let last = row.len();
     let end = room.len();
-    let put = building::place(
-        paper::MOST_LEVELS,
-        readings,
-        ranks,
-        schema,
-        table,
-        0,
-        &row[inner..last],
-        places,
-        ids,
-        room,
-        floor,
-        end,
-    );
-    let Put::At(start) = put else {
-        return Tried::NoRoom;
+    let build = Build {
+        readings: numbered.readings,
+        ranks: numbered.ranks,
+        schema: numbered.schema,
+        table: numbered.table,
     };
-    let answer = hand_out(
-        &row[3..middle],
-        parts.names,
-        chosen,
-        count,
-        &room[start..end],
-        metadata_out,
-        value_out,
-    );
-    Tried::Told(answer)
+    let body = numbered.row.outermost;
+    let start = build.place(paper::MOST_LEVELS, 0, body, places, ids, room, floor, end)?;
+    let value = &room[start..end];
+    let dictionary = &numbered.row.dictionary;
+    Some(hand_out(dictionary, numbered.chosen, value, metadata_out, value_out))
 }
 
-// Tries a short room, for a short row; for one of a few bytes a still shorter one.
-fn in_short_room(
-    readings: &[u8],
-    schema: &[u8],
-    row: &[u8],
-    parts: RowParts,
-    table: &[u16],
-    ranks: &[u16],
-    chosen: &[u16],
-    count: usize,
+// Writes by way of tables of NOTES entries for what is to be noted, and a room of ROOM bytes.
+fn in_room<const NOTES: usize, const ROOM: usize>(
+    numbered: &NumberedRow,
+    floor: usize,
     metadata_out: &mut [u8],
     value_out: &mut [u8],
-) -> Tried
-    requires { Readings readings.now × Numbered schema.now row.now table.now parts ranks.now chosen.now count × (length row.now ≤ 1024) }
-    ensures { SomeTried (row_doc schema.now row.now parts) metadata_out.old metadata_out.new value_out.old value_out.new result }
+) -> Option<DocumentAnswer>
+    requires { IsNumbered numbered.now × Enough (length numbered.now.row.now.outermost.now) NOTES NOTES floor × (floor ≤ ROOM) × (ROOM ≤ most_walked) × (NOTES ≤ most_walked) }
+    ensures { TriedAs (doc_of numbered.now) metadata_out.old metadata_out.new value_out.old value_out.new ROOM floor result }
 {
-    if row.len() <= 128 {
-        let mut places = [0u16; 128];
-        let mut ids = [0u8; 128];
-        let mut room = [0u8; 1024];
-        return write_out(
-            readings,
-            schema,
-            row,
-            parts,
-            table,
-            ranks,
-            chosen,
-            count,
-            &mut places,
-            &mut ids,
-            &mut room,
-            256,
-            metadata_out,
-            value_out,
-        );
-    }
-    let mut places = [0u16; 1024];
-    let mut ids = [0u8; 1024];
-    let mut room = [0u8; 6144];
+    let mut places = [0u16; NOTES];
+    let mut ids = [0u8; NOTES];
+    let mut room = [0u8; ROOM];
     write_out(
-        readings,
-        schema,
-        row,
-        parts,
-        table,
-        ranks,
-        chosen,
-        count,
+        numbered,
         &mut places,
         &mut ids,
         &mut room,
-        2048,
+        floor,
         metadata_out,
         value_out,
     )
+}
+
+// Tries a short room, for a short row; for one of a few bytes a still shorter one, and for a long row none.
+fn in_short_room(
+    numbered: &NumberedRow,
+    metadata_out: &mut [u8],
+    value_out: &mut [u8],
+) -> Option<DocumentAnswer>
+    requires { IsNumbered numbered.now }
+    ensures { SomeTried (doc_of numbered.now) metadata_out.old metadata_out.new value_out.old value_out.new result }
+{
+    match numbered.row.outermost.len() {
+        0..=128 => in_room::<128, 1024>(numbered, 256, metadata_out, value_out),
+        129..=1024 => in_room::<1024, 6144>(numbered, 2048, metadata_out, value_out),
+        _ => None,
+    }
 }
 
 // Writes by way of the long room. Its floor is at twice the longest leftover, and above it the longest value fits.
-fn in_long_room(
-    readings: &[u8],
-    schema: &[u8],
-    row: &[u8],
-    parts: RowParts,
-    table: &[u16],
-    ranks: &[u16],
-    chosen: &[u16],
-    count: usize,
-    places: &mut [u16],
-    ids: &mut [u8],
+fn in_long_room<const NOTES: usize>(
+    numbered: &NumberedRow,
     metadata_out: &mut [u8],
     value_out: &mut [u8],
 ) -> DocumentAnswer
-    requires { Readings readings.now × Numbered schema.now row.now table.now parts ranks.now chosen.now count × (length row.now ≤ length places.old) × (length row.now ≤ length ids.old) }
-    ensures { Answered (written (row_doc schema.now row.now parts)) metadata_out.old metadata_out.new value_out.old value_out.new result }
+    requires { IsNumbered numbered.now × (length numbered.now.row.now.outermost.now ≤ NOTES) × (NOTES ≤ most_walked) }
+    ensures { Answered (written (doc_of numbered.now)) metadata_out.old metadata_out.new value_out.old value_out.new result }
 {
-    let mut room = [0u8; 49152];
-    let tried = write_out(
-        readings,
-        schema,
-        row,
-        parts,
-        table,
-        ranks,
-        chosen,
-        count,
-        places,
-        ids,
-        &mut room,
-        32768,
-        metadata_out,
-        value_out,
-    );
-    match tried {
-        Tried::Told(answer) => answer,
-        Tried::NoRoom => DocumentAnswer::Refused(Refusal::TooLarge),
-    }
+    let tried = in_room::<NOTES, 49152>(numbered, 32768, metadata_out, value_out);
+    tried.unwrap_or(Err(Unwritten::Refused(Refusal::TooLarge)))
 }
 
-// Lays out the tables for what is to be noted, by the row's length, and the long room.
-fn with_notes(
-    readings: &[u8],
-    schema: &[u8],
-    row: &[u8],
-    parts: RowParts,
-    table: &[u16],
-    ranks: &[u16],
-    chosen: &[u16],
-    count: usize,
-    metadata_out: &mut [u8],
-    value_out: &mut [u8],
-) -> DocumentAnswer
-    requires { Readings readings.now × Numbered schema.now row.now table.now parts ranks.now chosen.now count }
-    ensures { Answered (written (row_doc schema.now row.now parts)) metadata_out.old metadata_out.new value_out.old value_out.new result }
-{
-    if row.len() <= 16384 {
-        let mut places = [0u16; 16384];
-        let mut ids = [0u8; 16384];
-        return in_long_room(
-            readings,
-            schema,
-            row,
-            parts,
-            table,
-            ranks,
-            chosen,
-            count,
-            &mut places,
-            &mut ids,
-            metadata_out,
-            value_out,
-        );
-    }
-    let mut places = [0u16; 65536];
-    let mut ids = [0u8; 65536];
-    in_long_room(
-        readings,
-        schema,
-        row,
-        parts,
-        table,
-        ranks,
-        chosen,
-        count,
-        &mut places,
-        &mut ids,
-        metadata_out,
-        value_out,
-    )
-}
-
-// A short row tries the short room first.
-fn for_short_row(
-    readings: &[u8],
-    schema: &[u8],
-    row: &[u8],
-    parts: RowParts,
-    table: &[u16],
-    ranks: &[u16],
-    chosen: &[u16],
-    count: usize,
-    metadata_out: &mut [u8],
-    value_out: &mut [u8],
-) -> DocumentAnswer
-    requires { Readings readings.now × Numbered schema.now row.now table.now parts ranks.now chosen.now count × (length row.now ≤ 1024) }
-    ensures { Answered (written (row_doc schema.now row.now parts)) metadata_out.old metadata_out.new value_out.old value_out.new result }
-{
-    let tried = in_short_room(
-        readings,
-        schema,
-        row,
-        parts,
-        table,
-        ranks,
-        chosen,
-        count,
-        metadata_out,
-        value_out,
-    );
-    match tried {
-        Tried::Told(answer) => answer,
-        Tried::NoRoom => with_notes(
-            readings,
-            schema,
-            row,
-            parts,
-            table,
-            ranks,
-            chosen,
-            count,
-            metadata_out,
-            value_out,
-        ),
-    }
-}
-
-// With the names numbered: by the row's length.
+// With the names numbered: a short room first, if the row is short, and then the long one, with an entry for each byte.
 pub fn with_room(
-    readings: &[u8],
-    schema: &[u8],
-    row: &[u8],
-    parts: RowParts,
-    table: &[u16],
-    ranks: &[u16],
-    chosen: &[u16],
-    count: usize,
+    numbered: &NumberedRow,
     metadata_out: &mut [u8],
     value_out: &mut [u8],
 ) -> DocumentAnswer
-    requires { Readings readings.now × Numbered schema.now row.now table.now parts ranks.now chosen.now count }
-    ensures { Answered (written (row_doc schema.now row.now parts)) metadata_out.old metadata_out.new value_out.old value_out.new result }
+    requires { IsNumbered numbered.now }
+    ensures { Answered (written (doc_of numbered.now)) metadata_out.old metadata_out.new value_out.old value_out.new result }
 {
-    if row.len() <= 1024 {
-        return for_short_row(
-            readings,
-            schema,
-            row,
-            parts,
-            table,
-            ranks,
-            chosen,
-            count,
-            metadata_out,
-            value_out,
-        );
+    if let Some(answer) = in_short_room(numbered, metadata_out, value_out) {
+        return answer;
     }
-    with_notes(
-        readings,
-        schema,
-        row,
-        parts,
-        table,
-        ranks,
-        chosen,
-        count,
-        metadata_out,
-        value_out,
-    )
+    if numbered.row.outermost.len() <= 16384 {
+        return in_long_room::<16384>(numbered, metadata_out, value_out);
+    }
+    in_long_room::<65536>(numbered, metadata_out, value_out)
 }

@@ -1,7 +1,7 @@
 -- What a place that parsed holds, by its parts; what its rules say of it; and that its inner pieces are no longer than it.
+use Rattle.std.specs.Prelude.{Option, None, Some}
 use mathlib.Core.Bool.{Bool, true, false, not, ◌&&◌, ◌||◌}
 use mathlib.Core.List.{List, [], ◌∷◌}
-use mathlib.Core.Option.{Option, none, some, some-injective}
 use mathlib.Core.Path.{◌≡◌, refl, sym, ap, subst, ◌∙◌}
 use Prim.Native.Nat.{ℕ, ◌+◌, ◌-◌, ◌≤◌}
 use native.Mathlib.Omega.{arith}
@@ -18,54 +18,55 @@ use Rattle.paper.specs.Rebuilding.{place_meaning_by}
 use Rattle.paper.specs.Rows.{Place, empty, leftover, typed, both, Typed, leftover_meaning, place_parts, place_by, place_within, place_under}
 use Rattle.paper.specs.Rules.{has_leftover, has_typed, leftover_of, is_object, is_fields_node, named_by, any_named, has_any, breaks_a, breaks_b, breaks_c, breaks_d, breaks_f, inside_lawful, place_lawful_by, place_lawful}
 use Rattle.paper.specs.Schemas.{Schema}
-use Rattle.paper.specs.Words.{at, part, given, and_then, is_there, among}
+use Rattle.paper.specs.Words.{part, given, and_then, is_there, among}
 use Rattle.places.proofs.PlaceLaws.{Told, told}
 use Rattle.places.proofs.VerdictLaws.{place_under_lem, place_lawful_lem}
 use Rattle.places.specs.Parts.{parts_in, parts_by, parts_of}
 use Rattle.places.specs.Verdicts.{typed_under, typed_lawful}
 use Rattle.places.specs.declared.parts.Parts.TheVariants.{Empty, Leftover, Typed as TypedPart, Both, Unframed}
 use Rattle.places.specs.declared.parts.Parts.{Parts}
+use Rattle.std.proofs.lemmas.Option.{same_Some}
 
 -- ---- what a place holds
 
 pub data Held (left : List ℕ → Option Doc) (right : List ℕ → Option Typed) (body : List ℕ) : Parts → Place → Type 0 where
   nothing_held : length body ≡ 0 → Held left right body Empty empty
-  left_held : {d : Doc} → left (part body 3 (length body)) ≡ some d → Held left right body Leftover (leftover d)
-  typed_held : {t : Typed} → right (part body 3 (length body)) ≡ some t → Held left right body TypedPart (typed t)
-  both_held : {middle : ℕ} {d : Doc} {t : Typed} → left (part body 3 middle) ≡ some d → right (part body (middle + 3) (length body)) ≡ some t
+  left_held : {d : Doc} → left (part body 3 (length body)) ≡ Some d → Held left right body Leftover (leftover d)
+  typed_held : {t : Typed} → right (part body 3 (length body)) ≡ Some t → Held left right body TypedPart (typed t)
+  both_held : {middle : ℕ} {d : Doc} {t : Typed} → left (part body 3 middle) ≡ Some d → right (part body (middle + 3) (length body)) ≡ Some t
       → Held left right body (Both middle) (both d t)
 
 module _ (left : List ℕ → Option Doc) (right : List ℕ → Option Typed) (body : List ℕ) (p : Place) where
-  place_held : and_then (pieces_of body) (place_parts left right) ≡ some p → Held left right body (parts_of body) p
+  place_held : and_then (pieces_of body) (place_parts left right) ≡ Some p → Held left right body (parts_of body) p
   unfolding and_then place_parts given is_there
   place_held e = go (parts_of body) (told body)
     where
-      beside : (middle : ℕ) (d : Doc) → left (part body 3 middle) ≡ some d
-          → and_then (right (part body (middle + 3) (length body))) (λ t. some (both d t)) ≡ some p → Held left right body (Both middle) p
+      beside : (middle : ℕ) (d : Doc) → left (part body 3 middle) ≡ Some d
+          → and_then (right (part body (middle + 3) (length body))) (λ t. Some (both d t)) ≡ Some p → Held left right body (Both middle) p
       beside middle d meant f =
-          let read = then_some (right (part body (middle + 3) (length body))) (λ t. some (both d t)) f in
-          subst (Held left right body (Both middle)) (some-injective (both d read.0) p read.2) (both_held meant read.1)
+          let read = then_some (right (part body (middle + 3) (length body))) (λ t. Some (both d t)) f in
+          subst (Held left right body (Both middle)) (same_Some (both d read.0) p read.2) (both_held meant read.1)
 
       go : (q : Parts) → Told body q → Held left right body q p
       go Empty t =
-          let is : empty ≡ p = some-injective empty p (rw (pieces_ended body 0 (omega arith)) at e) in
+          let is : empty ≡ p = same_Some empty p (rw (pieces_ended body 0 (omega arith)) at e) in
           subst (Held left right body Empty) is (nothing_held t)
       go Leftover t =
-          let meant = then_some (left (part body 3 (length body))) (λ d. some (leftover d)) (rw (t.pieces, t.tagged) at e) in
-          subst (Held left right body Leftover) (some-injective (leftover meant.0) p meant.2) (left_held meant.1)
+          let meant = then_some (left (part body 3 (length body))) (λ d. Some (leftover d)) (rw (t.pieces, t.tagged) at e) in
+          subst (Held left right body Leftover) (same_Some (leftover meant.0) p meant.2) (left_held meant.1)
       go TypedPart t =
-          let read = then_some (right (part body 3 (length body))) (λ t. some (typed t)) (rw (t.pieces, t.tagged) at e) in
-          subst (Held left right body TypedPart) (some-injective (typed read.0) p read.2) (typed_held read.1)
+          let read = then_some (right (part body 3 (length body))) (λ t. Some (typed t)) (rw (t.pieces, t.tagged) at e) in
+          subst (Held left right body TypedPart) (same_Some (typed read.0) p read.2) (typed_held read.1)
       go (Both middle) t =
           let meant = then_some (left (part body 3 middle)) _ (rw (t.pieces, t.first_tag, t.second_tag) at e) in
           beside middle meant.0 meant.1 meant.2
-      go Unframed t = never (sym (some_there none (sym (t left right) ∙ e)))
+      go Unframed t = never (sym (some_there None (sym (t left right) ∙ e)))
 
-pub under_held : (under : Schema) (levels : ℕ) (names : Dictionary) (piece : Piece) (p : Place) → place_under under levels names piece ≡ some p
+pub under_held : (under : Schema) (levels : ℕ) (names : Dictionary) (piece : Piece) (p : Place) → place_under under levels names piece ≡ Some p
     → Held (leftover_meaning levels names) (typed_under under levels names) piece.body (parts_of piece.body) p
 unfolding place_within place_by
 under_held under levels names piece p e =
-    let by : place_within levels names (typed_under under levels names) piece ≡ some p = rw (place_under_lem under levels names) at e in
+    let by : place_within levels names (typed_under under levels names) piece ≡ Some p = rw (place_under_lem under levels names) at e in
     let tagged = given_some (eqb piece.tag 0x50) _ by in
     place_held (leftover_meaning levels names) (typed_under under levels names) piece.body p tagged.1
 
@@ -158,12 +159,12 @@ pub data AllFit : List Piece → Type 0 where
   one_fits : {piece : Piece} {more : List Piece} → Fits piece.body → AllFit more → AllFit (piece ∷ more)
 
 module _ (s : List ℕ) (fits : Fits s) where
-  fit_from : (pieces : List Piece) (place : ℕ) → pieces_of (drop place s) ≡ some pieces → AllFit pieces
+  fit_from : (pieces : List Piece) (place : ℕ) → pieces_of (drop place s) ≡ Some pieces → AllFit pieces
   fit_from [] place e = none_fit
   fit_from (first ∷ more) place e =
       let here = pieces_first_is s place first more e in
       let own : Fits first.body = subst (λ (q : Piece). Fits q.body) (sym here.is) (part_fits s (place + 3) here.end fits) in
       one_fits own (fit_from more here.end here.behind)
 
-  pub pieces_fit : (pieces : List Piece) → pieces_of s ≡ some pieces → AllFit pieces
+  pub pieces_fit : (pieces : List Piece) → pieces_of s ≡ Some pieces → AllFit pieces
   pieces_fit pieces e = fit_from pieces 0 e

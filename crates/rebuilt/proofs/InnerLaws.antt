@@ -1,7 +1,7 @@
 -- Stepping through a lawful row: the places of a list and of an object one after another, each with its piece.
+use Rattle.std.specs.Prelude.{Option, None, Some}
 use mathlib.Core.Bool.{Bool, true, false, not, ◌&&◌}
 use mathlib.Core.List.{List, [], ◌∷◌}
-use mathlib.Core.Option.{Option, none, some}
 use mathlib.Core.Path.{◌≡◌, refl, sym, ap, ◌∙◌}
 use Prim.Native.Nat.{ℕ, ◌+◌, ◌≤◌, ◌<◌}
 use native.Mathlib.Omega.{arith}
@@ -13,18 +13,14 @@ use Rattle.fields.proofs.TellingLaws.{FirstTold, field_told_lem, field_in_table}
 use Rattle.fields.specs.Telling.{entry_place, looked_at}
 use Rattle.frames.proofs.FrameLaws.{pieces_by, pieces_at, pieces_ended}
 use Rattle.frames.specs.Frames.{piece_in, frame_end as end_of}
-use Rattle.frames.specs.declared.Frame.TheVariants.{Ends, Cut}
-use Rattle.frames.specs.declared.Frame.{Frame}
 use Rattle.lookup.specs.Looking.{Tells, found, missing}
-use Rattle.lookup.specs.declared.Looked.TheVariants.{At, Nowhere}
-use Rattle.lookup.specs.declared.Looked.{Looked}
 use Rattle.paper.proofs.WordLaws.{never, given_some}
 use Rattle.paper.specs.Framing.{Piece, pieces_of}
 use Rattle.paper.specs.Metadata.{Dictionary}
 use Rattle.paper.specs.Schemas.{SchemaFields, none_named}
 use Rattle.paper.specs.Words.{at, part, among, and_then, is_there}
 use Rattle.places.proofs.StepLaws.{place_cut, place_ends, place_fits, elements_cut, elements_next, members_more, members_few, members_cut, members_next}
-use Rattle.places.specs.Frames.{place_end, place_frame}
+use Rattle.places.specs.Frames.{place_end}
 use Rattle.places.specs.Verdicts.{verdict_of, place_verdict, elements_verdict, members_verdict, worse, broken_if}
 use Rattle.places.specs.declared.verdicts.Verdict.TheVariants.{Lawful, Broken, Unparsed}
 use Rattle.places.specs.declared.verdicts.Verdict.{Verdict}
@@ -47,31 +43,31 @@ both_lawful Lawful w e = (refl, e)
 -- What is lawful has its pieces.
 pieces_there : {A : Type 0} (x : Option (List Piece)) (read : List Piece → Option A) (keeps : A → Bool) → verdict_of (and_then x read) keeps ≡ Lawful → is_there x ≡ true
 unfolding and_then verdict_of is_there
-pieces_there none read keeps e = unparsed_not e
-pieces_there (some pieces) read keeps e = refl
+pieces_there None read keeps e = unparsed_not e
+pieces_there (Some pieces) read keeps e = refl
 
 pub pieces_none : (body : List ℕ) (place : ℕ) → length body ≤ place → pieces_in (drop place body) ≡ []
 unfolding pieces_in listed
 pieces_none body place over = rw (pieces_ended body place over)
 
-pieces_step : (body : List ℕ) (place end : ℕ) → place < length body → place_end body place ≡ some end → is_there (pieces_of (drop end body)) ≡ true
+pieces_step : (body : List ℕ) (place end : ℕ) → place < length body → place_end body place ≡ Some end → is_there (pieces_of (drop end body)) ≡ true
     → pieces_in (drop place body) ≡ piece_in body place end ∷ pieces_in (drop end body)
 unfolding pieces_in place_end pieces_by is_there listed and_then
 pieces_step body place end h ends behind =
     rw (pieces_at body place h, (given_some (eqb (at body place) 0x50) (end_of body place) ends).1) (go (pieces_of (drop end body)) behind)
   where
-    go : (x : Option (List Piece)) → is_there x ≡ true → listed (and_then x λ more. some (piece_in body place end ∷ more)) ≡ piece_in body place end ∷ listed x
-    go none e = never (sym e)
-    go (some more) e = refl
+    go : (x : Option (List Piece)) → is_there x ≡ true → listed (and_then x λ more. Some (piece_in body place end ∷ more)) ≡ piece_in body place end ∷ listed x
+    go None e = never (sym e)
+    go (Some more) e = refl
 
 -- ---- a list's places
 
 module _ {levels : ℕ} {names : Dictionary} {schema table : List ℕ} {node : ℕ} (body : List ℕ) (place : ℕ)
-    (there : ElementsThere levels names schema table node (drop place body)) (h : place < length body) {r : Frame} (told : r ≡ place_frame body place) where
-  pub element_whole : r ≡ Cut → ⊥
+    (there : ElementsThere levels names schema table node (drop place body)) (h : place < length body) {r : Option ℕ} (told : r ≡ place_end body place) where
+  pub element_whole : r ≡ None → ⊥
   element_whole e = unparsed_not (sym (elements_cut there.element levels names body place h (place_cut body place r told e)) ∙ there.lawful)
 
-  module _ {end : ℕ} (e : r ≡ Ends end) where
+  module _ {end : ℕ} (e : r ≡ Some end) where
     element_both : (broken_if (eqb (place + 3) end) (place_verdict there.element levels names (part body (place + 3) end)) ≡ Lawful)
         × (elements_verdict there.element levels names (drop end body) ≡ Lawful)
     element_both = both_lawful _ _ (sym (elements_next there.element levels names body place h end (place_ends body place end r told e)) ∙ there.lawful)
@@ -99,17 +95,17 @@ module _ {levels : ℕ} {names : Dictionary} {schema table : List ℕ} {node : �
 -- ---- an object's places
 
 -- The id of a field that is present.
-pub record NamedBy (names : Dictionary) (name : List ℕ) (looked : Looked) : Type 0 where
+pub record NamedBy (names : Dictionary) (name : List ℕ) (looked : Option InputId) : Type 0 where
   pub id : InputId
-  pub looked_is : looked ≡ At id
+  pub looked_is : looked ≡ Some id
   pub below : id.0 < length names
   pub is : get_or names id.0 [] ≡ name
 
-told_below : {names : Dictionary} {name : List ℕ} {looked : Looked} → Tells names name looked → (id : InputId) → looked ≡ At id → id.0 < length names
+told_below : {names : Dictionary} {name : List ℕ} {looked : Option InputId} → Tells names name looked → (id : InputId) → looked ≡ Some id → id.0 < length names
 told_below {names} (found own below is) id e = let same : own.0 ≡ id.0 = cc in rw (← same) below
 told_below (missing none_has) id e = absurd (let z : ◌≡◌ {A = ℕ} 0 1 = cc in omega arith)
 
-named_by : {names : Dictionary} {name : List ℕ} {looked : Looked} → Tells names name looked → among name names ≡ true → NamedBy names name looked
+named_by : {names : Dictionary} {name : List ℕ} {looked : Option InputId} → Tells names name looked → among name names ≡ true → NamedBy names name looked
 named_by (found id below is) e = record { id = id; looked_is = refl; below = below; is = is }
 named_by (missing none_has) e = never (sym e ∙ none_has)
 
@@ -156,15 +152,15 @@ module _ {levels : ℕ} {names : Dictionary} {schema table : List ℕ} {field to
     member_entry = field_in_table member_first.stands table there.tabled
 
     -- the field's id, whether it is present or not
-    pub member_below : (id : InputId) → looked_at table field ≡ At id → id.0 < length names
+    pub member_below : (id : InputId) → looked_at table field ≡ Some id → id.0 < length names
     member_below = told_below member_told.here
 
-    module _ {r : Frame} (told : r ≡ place_frame body place) where
-      pub member_whole : r ≡ Cut → ⊥
+    module _ {r : Option ℕ} (told : r ≡ place_end body place) where
+      pub member_whole : r ≡ None → ⊥
       member_whole e =
           unparsed_not (sym (members_cut levels names body member_first.name member_first.node member_first.more place member_has (place_cut body place r told e)) ∙ lawful_are member_first.are)
 
-      module _ {end : ℕ} (e : r ≡ Ends end) where
+      module _ {end : ℕ} (e : r ≡ Some end) where
         abbrev unnamed : Bool
         unnamed = not (eqb (place + 3) end) && not (among member_first.name names)
 
@@ -211,6 +207,6 @@ module _ {levels : ℕ} {names : Dictionary} {schema table : List ℕ} {field to
               let kept : not (among member_first.name names) ≡ false = rw (ne_eqb (place + 3) end (λ z. omega arith)) at (not_broken unnamed _ member_both.0).0 in
               named_by member_told.here (not-false (among member_first.name names) kept)
 
-          pub member_known : {looked : Looked} → looked ≡ looked_at table field → looked ≡ Nowhere → ⊥
+          pub member_known : {looked : Option InputId} → looked ≡ looked_at table field → looked ≡ None → ⊥
           member_known is-looked nowhere =
               let known = member_named.looked_is in let z : ◌≡◌ {A = ℕ} 0 1 = cc in omega arith

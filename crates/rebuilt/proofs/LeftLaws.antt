@@ -1,7 +1,7 @@
 -- The members of a leftover object are the fields that it means, and their names rise; an object without members has none.
+use Rattle.std.specs.Prelude.{None, Some}
 use mathlib.Core.Bool.{Bool, true, false, cond}
 use mathlib.Core.List.{List, [], ◌∷◌}
-use mathlib.Core.Option.{none, some, some-injective}
 use mathlib.Core.Path.{◌≡◌, refl, sym, ap, subst, ◌∙◌}
 use Prim.Native.Nat.{ℕ, zero, suc, ◌-◌, ◌+◌, ◌/◌, ◌%◌, ◌≤◌}
 use native.Mathlib.Omega.{arith}
@@ -34,6 +34,7 @@ use Rattle.values.proofs.ValueLaws.{object_container, object_id}
 use Rattle.writing.proofs.MeaningLaws.{members_written, names_length, rewritten_is}
 use Rattle.writing.specs.Rewritten.{parts_of, rewritten}
 use Rattle.writing.specs.Written.{Right}
+use Rattle.std.proofs.lemmas.Option.{same_Some}
 
 -- ---- an object's own byte
 
@@ -43,7 +44,7 @@ pub record ObjectRead (s : List ℕ) : Type 0 where
   pub offset_size : ℕ
   pub is : reading_of (at s 0) ≡ ObjectHead count_size_lem id_size offset_size
 
-pub object_read : (levels : ℕ) (names : Dictionary) (s : List ℕ) (fs : Fields) → meaning_by (meaning_of levels names) names (reading_of (at s 0)) s ≡ some (object fs)
+pub object_read : (levels : ℕ) (names : Dictionary) (s : List ℕ) (fs : Fields) → meaning_by (meaning_of levels names) names (reading_of (at s 0)) s ≡ Some (object fs)
     → at s 0 % 4 ≡ 2 → ObjectRead s
 unfolding reading_of kind_reading meaning_by is_there
 object_read levels names s fs e two =
@@ -53,9 +54,9 @@ object_read levels names s fs e two =
     go : (used : Bool)
         → reading_of (at s 0) ≡ cond used (ObjectHead (count_size (at s 0 / 4 / 16 % 2)) (at s 0 / 4 / 4 % 4 + 1) (at s 0 / 4 % 4 + 1)) Nothing
         → meaning_by (meaning_of levels names) names (cond used (ObjectHead (count_size (at s 0 / 4 / 16 % 2)) (at s 0 / 4 / 4 % 4 + 1) (at s 0 / 4 % 4 + 1)) Nothing) s
-        ≡ some (object fs) → ObjectRead s
+        ≡ Some (object fs) → ObjectRead s
     go true is m = record { count_size_lem = _; id_size = _; offset_size = _; is = is }
-    go false is m = never (sym (some_there none m))
+    go false is m = never (sym (some_there None m))
 
 module _ (names normal : Dictionary) (ranks : List ℕ) where
   -- ---- members with ids, as fields with names
@@ -82,14 +83,14 @@ module _ (names normal : Dictionary) (ranks : List ℕ) where
     unfolding area_of
     area_small = rw length-drop (omega arith)
 
-    head_are : meaning_by (meaning_of levels names) names (ObjectHead c i w) s ≡ some (object fs)
+    head_are : meaning_by (meaning_of levels names) names (ObjectHead c i w) s ≡ Some (object fs)
         → Numbered names normal ranks (ids_by (ids_in levels) (ObjectHead c i w) s)
         → AreFields normal ranks (left_members_by (rewritten levels ranks) (ObjectHead c i w) s) fs
     unfolding meaning_by ids_by left_members_by parts_of ids_inside fields_in
     head_are e numbered =
         let lie = then_some (members_of names c i w s) _ e in
         let inside = then_some (member_docs (meaning_of levels names) (area_of c i w s) (names_at names (ids_of c i s)) lie.0) _ lie.2 in
-        let same : inside.0 ≡ fs = ap fields_in (some-injective (object inside.0) (object fs) inside.2) in
+        let same : inside.0 ≡ fs = ap fields_in (same_Some (object inside.0) (object fs) inside.2) in
         let lies = members_lie names s c i w lie.0 lie.1 in
         let container = object_container s fills (ObjectHead c i w) (sym is) c i w refl small in
         let least = object_id s fills (ObjectHead c i w) (sym is) c i w refl in
@@ -107,10 +108,10 @@ module _ (names normal : Dictionary) (ranks : List ℕ) where
   -- ---- a leftover that is an object
 
   module _ (left : List ℕ) (bytes : Bytes left) (small : length left ≤ most_walked) (fs : Fields) where
-    pub left_are : (levels : ℕ) → meaning_of levels names left ≡ some (object fs) → Numbered names normal ranks (ids_in levels left)
+    pub left_are : (levels : ℕ) → meaning_of levels names left ≡ Some (object fs) → Numbered names normal ranks (ids_in levels left)
         → AreFields normal ranks (left_members (levels - 1) ranks left) fs
     unfolding meaning_of is_there ids_in left_members is_object
-    left_are zero e numbered = never (sym (some_there none e))
+    left_are zero e numbered = never (sym (some_there None e))
     left_are (suc levels) e numbered =
         let told = given_some (whole left) _ e in
         let two : at left 0 % 4 ≡ 2 = eqb-true (at left 0 % 4) 2 (sym (left_kind (suc levels) names left e).0) in
@@ -119,7 +120,7 @@ module _ (names normal : Dictionary) (ranks : List ℕ) where
         rw (one_less, read.is)
         (head_are levels left bytes small told.0 fs read.count_size_lem read.id_size read.offset_size read.is (rw read.is at told.1) (rw read.is at numbered))
 
-pub left_rises : (levels : ℕ) (names : Dictionary) (left : List ℕ) (fs : Fields) → meaning_of levels names left ≡ some (object fs) → rising (field_names fs) ≡ true
+pub left_rises : (levels : ℕ) (names : Dictionary) (left : List ℕ) (fs : Fields) → meaning_of levels names left ≡ Some (object fs) → rising (field_names fs) ≡ true
 unfolding well_formed well_formed_by
 left_rises zero names left fs e = never (sym (decoded-well_formed zero names left (object fs) e))
 left_rises (suc levels) names left fs e =

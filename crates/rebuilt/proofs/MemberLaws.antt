@@ -1,14 +1,13 @@
 -- An object's places one at a time: one that is present is a member with its field's id, which has the field's name, and an
 -- empty one is none.
+use Rattle.dictionary.specs.declared.ids.InputId.{InputId}
+use Rattle.std.specs.Prelude.{Option, None, Some}
 use mathlib.Core.Bool.{true, not, ◌&&◌}
 use mathlib.Core.List.{List, [], ◌∷◌, ◌++◌}
-use mathlib.Core.Option.{Option, none, some, some-injective}
 use mathlib.Core.Path.{◌≡◌, sym, ap, subst, ◌∙◌}
 use Prim.Native.Nat.{ℕ}
 use Rattle.fields.specs.Telling.{looked_at}
 use Rattle.lookup.specs.Looking.{Tells, found, missing}
-use Rattle.lookup.specs.declared.Looked.TheVariants.{At, Nowhere}
-use Rattle.lookup.specs.declared.Looked.{Looked}
 use Rattle.paper.proofs.WordLaws.{never, then_some, and_both, there_some, some_there}
 use Rattle.paper.specs.Framing.{Piece}
 use Rattle.paper.specs.Meaning.{Doc, Fields}
@@ -32,11 +31,12 @@ use Rattle.rebuilt.specs.There.{Numbered}
 use Rattle.rebuilt.specs.Using.{add_id, place_ids, member_ids}
 use Rattle.schemas.specs.Frames.{frame_end}
 use Rattle.schemas.specs.Positions.{field_node}
+use Rattle.std.proofs.lemmas.Option.{same_Some}
 
 -- A place by its body: empty, or it means something and the dictionary has its name.
 data Presence (names : Dictionary) (name : List ℕ) : (body : List ℕ) → Option Doc → Type 0 where
-  absent : Presence names name [] none
-  present : {b : ℕ} {bs : List ℕ} {d : Doc} → among name names ≡ true → Presence names name (b ∷ bs) (some d)
+  absent : Presence names name [] None
+  present : {b : ℕ} {bs : List ℕ} {d : Doc} → among name names ≡ true → Presence names name (b ∷ bs) (Some d)
 
 module _ (names : Dictionary) (name : List ℕ) (node : Schema) (levels : ℕ) (p : Place) (keeps : not (breaks_f names name p) ≡ true) where
   presence : (body : List ℕ) → Held (leftover_meaning levels names) (typed_under node levels names) body (parts_of body) p
@@ -50,13 +50,13 @@ module _ (names : Dictionary) (name : List ℕ) (node : Schema) (levels : ℕ) (
 
 module _ (names normal : Dictionary) (ranks : List ℕ) where
   -- The ids behind a field's own.
-  member_ids_lem : (body : List ℕ) (looked : Looked) (ids : List ℕ) → Numbered names normal ranks (add_id body looked ids) → Numbered names normal ranks ids
+  member_ids_lem : (body : List ℕ) (looked : Option InputId) (ids : List ℕ) → Numbered names normal ranks (add_id body looked ids) → Numbered names normal ranks ids
   unfolding add_id
   member_ids_lem [] looked ids numbered = numbered
-  member_ids_lem (b ∷ bs) (At id) ids numbered = numbered_more id.0 ids numbered
-  member_ids_lem (b ∷ bs) Nowhere ids numbered = numbered
+  member_ids_lem (b ∷ bs) (Some id) ids numbered = numbered_more id.0 ids numbered
+  member_ids_lem (b ∷ bs) None ids numbered = numbered
 
-  member_added : {name : List ℕ} {looked : Looked} {body : List ℕ} {x : Option Doc} {ms : List Member} {fs : Fields} (bytes ids : List ℕ)
+  member_added : {name : List ℕ} {looked : Option InputId} {body : List ℕ} {x : Option Doc} {ms : List Member} {fs : Fields} (bytes ids : List ℕ)
       → Tells names name looked → Presence names name body x → bytes ≡ value_bytes normal (or_null x) → Numbered names normal ranks (add_id body looked ids)
       → AreFields normal ranks ms fs → AreFields normal ranks (add_member body looked bytes ms) (add_field name x fs)
   unfolding add_member add_field add_id or_null
@@ -73,8 +73,8 @@ module _ (names normal : Dictionary) (ranks : List ℕ) where
     module _ (name : List ℕ) (node : Schema) (columns : SchemaFields) (tells : Tells names name (looked_at table field))
         (each : PlaceIs names normal ranks schema table node levels (field_node schema field))
         (others : MembersAre names normal ranks schema table columns levels (frame_end schema field)) where
-      member_are : (piece : Piece) (more : List Piece) (p : Place) (ps : Places) → place_under node levels names piece ≡ some p
-          → field_places columns levels names more ≡ some ps → fields_lawful (named name node columns) names (place p ps) ≡ true
+      member_are : (piece : Piece) (more : List Piece) (p : Place) (ps : Places) → place_under node levels names piece ≡ Some p
+          → field_places columns levels names more ≡ Some ps → fields_lawful (named name node columns) names (place p ps) ≡ true
           → Numbered names normal ranks (member_ids (named name node columns) levels schema table field (piece ∷ more)) → AllFit (piece ∷ more)
           → AreFields normal ranks (member_places (named name node columns) levels ranks schema table field (piece ∷ more))
           (fields_meaning (named name node columns) (place p ps))
@@ -92,11 +92,11 @@ module _ (names normal : Dictionary) (ranks : List ℕ) where
 
       pub more_members : MembersAre names normal ranks schema table (named name node columns) levels field
       unfolding field_places is_there
-      more_members [] ps here = never (sym (some_there none here.read))
+      more_members [] ps here = never (sym (some_there None here.read))
       more_members (piece ∷ more) ps here =
           let first = then_some (place_under node levels names piece) _ here.read in
           let rest = then_some (field_places columns levels names more) _ first.2 in
-          let is : place first.0 rest.0 ≡ ps = some-injective (place first.0 rest.0) ps rest.2 in
+          let is : place first.0 rest.0 ≡ ps = same_Some (place first.0 rest.0) ps rest.2 in
           let lawful = ap (fields_lawful (named name node columns) names) is ∙ here.lawful in
           subst (λ (l : Places). AreFields normal ranks (member_places (named name node columns) levels ranks schema table field (piece ∷ more)) (fields_meaning (named name node columns) l)) is
           (member_are piece more first.0 rest.0 first.1 rest.1 lawful here.numbered here.fit)

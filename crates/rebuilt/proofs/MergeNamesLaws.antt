@@ -6,7 +6,7 @@ use mathlib.Core.Path.{◌≡◌, refl, sym, ap, ◌∙◌}
 use Prim.Native.Nat.{ℕ}
 use Rattle.names.specs.Used.{used_in, used_in_fields}
 use Rattle.order.specs.Before.{before, order_of}
-use Rattle.order.specs.declared.Order.TheVariants.{Less, Equal, Greater}
+use Rattle.std.specs.declared.cmp.Ordering.TheVariants.{Less, Equal, Greater}
 use Rattle.paper.specs.Meaning.{Doc, Fields, no_fields, field}
 use Rattle.paper.specs.Metadata.{rising}
 use Rattle.paper.specs.Normal.{insert_by, insert_name, field_names}

@@ -1,7 +1,7 @@
 -- The names of the typed fields that a place means are among its node's, so a leftover without the node's names has none of them.
+use Rattle.std.specs.Prelude.{Option, None, Some}
 use mathlib.Core.Bool.{Bool, true, false, ◌||◌}
 use mathlib.Core.List.{List}
-use mathlib.Core.Option.{Option, none, some}
 use mathlib.Core.Path.{◌≡◌, refl, sym}
 use Prim.Native.Nat.{ℕ}
 use Rattle.names.proofs.SameLaws.{or_second}
@@ -28,8 +28,8 @@ meant_named (named first node columns) (place p ps) name e = go (place_meaning n
     go : (x : Option Doc) → among name (field_names (add_field first x (fields_meaning columns ps))) ≡ true
         → (among name (field_names (fields_meaning columns ps)) ≡ true → among name (column_names columns) ≡ true)
         → same first name || among name (column_names columns) ≡ true
-    go none f rest = or_second (same first name) (among name (column_names columns)) (rest f)
-    go (some d) f rest = or_fewer (same first name) (among name (field_names (fields_meaning columns ps))) (among name (column_names columns)) rest f
+    go None f rest = or_second (same first name) (among name (column_names columns)) (rest f)
+    go (Some d) f rest = or_fewer (same first name) (among name (field_names (fields_meaning columns ps))) (among name (column_names columns)) rest f
 
 pub fewer_named : (few all : List (List ℕ)) → ((name : List ℕ) → among name few ≡ true → among name all ≡ true)
     → (fs : Fields) → any_named all fs ≡ false → any_named few fs ≡ false

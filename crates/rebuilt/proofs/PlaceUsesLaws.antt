@@ -1,9 +1,9 @@
 -- A place uses what its leftover uses and what is typed in it uses: its ids by its parts, and what it means by them.
+use Rattle.std.specs.Prelude.{None, Some}
 use mathlib.Core.Bool.{Bool, true, false, not, ◌&&◌, ◌||◌}
 use mathlib.Core.List.{List, [], ◌++◌}
-use mathlib.Core.Option.{none, some, some-injective}
 use mathlib.Core.Path.{◌≡◌, refl, sym, ap, ◌∙◌}
-use Prim.Native.Nat.{ℕ, ◌+◌, ◌-◌}
+use Prim.Native.Nat.{ℕ, ◌+◌}
 use native.Mathlib.Omega.{arith}
 use lib.Dec.{leb, eqb}
 use lib.ListN.{length}
@@ -37,11 +37,12 @@ use Rattle.rebuilt.proofs.NamedLaws.{meant_named}
 use Rattle.rebuilt.proofs.PartsLaws.{typed_meaning, meaning_parts}
 use Rattle.rebuilt.proofs.PartwiseLaws.{ids_are-typed, no_left-ids}
 use Rattle.rebuilt.proofs.UsesLaws.{Uses, uses_none, uses_as, uses_both, uses_left}
+use Rattle.std.proofs.lemmas.Option.{same_Some}
 
 -- ---- a leftover beside something typed
 
 -- Rules a, b and c: it is an object beside an object, and they share no name.
-beside_used : (under : Schema) (levels : ℕ) (names : Dictionary) (left : List ℕ) (d : Doc) (t : Typed) → meaning_of levels names left ≡ some d
+beside_used : (under : Schema) (levels : ℕ) (names : Dictionary) (left : List ℕ) (d : Doc) (t : Typed) → meaning_of levels names left ≡ Some d
     → beside_broken under d ≡ false → (name : List ℕ)
     → used_in name d || used_in name (typed_meaning under t) ≡ used_in name (object (merge (fields_in d) (fields_in (typed_meaning under t))))
 unfolding beside_broken is_fields_node is_object has_any named_by typed_meaning inner_doc fields_in used_in field_names among
@@ -76,15 +77,15 @@ both_kept under keeps d t = go (is_fields_node under) (is_object d) (has_any (na
 -- What is typed under a node uses the names of its ids.
 abbrev pub TypedUses : Schema → (levels : ℕ) → Dictionary → (schema table : List ℕ) → (node : ℕ) → Type 0
 TypedUses under levels names schema table node =
-    (s : List ℕ) (t : Typed) → typed_under under levels names s ≡ some t → typed_lawful under names t ≡ true
+    (s : List ℕ) (t : Typed) → typed_under under levels names s ≡ Some t → typed_lawful under names t ≡ true
     → Uses names (typed_ids under levels schema table node s) (λ name. used_in name (typed_meaning under t))
 
 abbrev pub PlaceUses : Schema → (levels : ℕ) → Dictionary → (schema table : List ℕ) → (node : ℕ) → Type 0
 PlaceUses under levels names schema table node =
-    (piece : Piece) (p : Place) → place_under under levels names piece ≡ some p → place_lawful under names p ≡ true
+    (piece : Piece) (p : Place) → place_under under levels names piece ≡ Some p → place_lawful under names p ≡ true
     → Uses names (place_ids under levels schema table node piece.body) (λ name. used_in name (or_null (place_meaning under p)))
 
-left_means : (levels : ℕ) (names : Dictionary) (left : List ℕ) {d : Doc} → leftover_meaning levels names left ≡ some d → meaning_of levels names left ≡ some d
+left_means : (levels : ℕ) (names : Dictionary) (left : List ℕ) {d : Doc} → leftover_meaning levels names left ≡ Some d → meaning_of levels names left ≡ Some d
 unfolding leftover_meaning
 left_means levels names left e = (given_some (leb (length left) most_leftover) (meaning_of levels names left) e).1
 
@@ -92,7 +93,7 @@ module _ (under : Schema) (levels : ℕ) (names : Dictionary) (schema table : Li
   abbrev Ids : List ℕ → List ℕ → List ℕ
   Ids left s = ids_in levels left ++ typed_ids under levels schema table node s
 
-  both_use : (left s : List ℕ) (d : Doc) (t : Typed) (p : Place) → leftover_meaning levels names left ≡ some d → typed_under under levels names s ≡ some t
+  both_use : (left s : List ℕ) (d : Doc) (t : Typed) (p : Place) → leftover_meaning levels names left ≡ Some d → typed_under under levels names s ≡ Some t
       → both d t ≡ p → place_lawful_by under (typed_lawful under names) p ≡ true
       → Uses names (Ids left s) (λ name. used_in name (or_null (place_meaning_by (typed_meaning under) p)))
   unfolding place_meaning_by or_null
@@ -102,29 +103,29 @@ module _ (under : Schema) (levels : ℕ) (names : Dictionary) (schema table : Li
       rw (← is)
       (uses_as (uses_both (uses_left levels names left d means) (each s t typed-read keeps.1)) (beside_used under levels names left d t means keeps.0))
 
-  by_parts : (body : List ℕ) (p : Place) → and_then (pieces_of body) (place_parts (leftover_meaning levels names) (typed_under under levels names)) ≡ some p
+  by_parts : (body : List ℕ) (p : Place) → and_then (pieces_of body) (place_parts (leftover_meaning levels names) (typed_under under levels names)) ≡ Some p
       → place_lawful_by under (typed_lawful under names) p ≡ true
       → (parts : Parts) → Told body parts
       → Uses names (rebuilt_by [] [] (ids_in levels) Ids parts body) (λ name. used_in name (or_null (place_meaning_by (typed_meaning under) p)))
   unfolding and_then place_parts given place_meaning_by rebuilt_by or_null used_in is_there
   by_parts body p e kept Empty none_left =
-      let is : empty ≡ p = some-injective empty p (sym (rw (pieces_ended body 0 (omega arith))) ∙ e) in rw (← is) uses_none
+      let is : empty ≡ p = same_Some empty p (sym (rw (pieces_ended body 0 (omega arith))) ∙ e) in rw (← is) uses_none
   by_parts body p e kept Leftover t =
       let left : List ℕ = part body 3 (length body) in
-      let got = then_some (leftover_meaning levels names left) (λ d. some (leftover d)) (rw (t.pieces, t.tagged) at e) in
-      rw (← some-injective (leftover got.0) p got.2) (uses_left levels names left got.0 (left_means levels names left got.1))
+      let got = then_some (leftover_meaning levels names left) (λ d. Some (leftover d)) (rw (t.pieces, t.tagged) at e) in
+      rw (← same_Some (leftover got.0) p got.2) (uses_left levels names left got.0 (left_means levels names left got.1))
   by_parts body p e kept TypedPart t =
       let s : List ℕ = part body 3 (length body) in
-      let got = then_some (typed_under under levels names s) (λ u. some (typed u)) (rw (t.pieces, t.tagged) at e) in
-      let is : typed got.0 ≡ p = some-injective (typed got.0) p got.2 in
+      let got = then_some (typed_under under levels names s) (λ u. Some (typed u)) (rw (t.pieces, t.tagged) at e) in
+      let is : typed got.0 ≡ p = same_Some (typed got.0) p got.2 in
       rw (← is, no_left-ids levels) (each s got.0 got.1 (typed_kept under (typed_lawful under names) got.0 (ap (place_lawful_by under (typed_lawful under names)) is ∙ kept)))
   by_parts body p e kept (Both middle) t =
       let left : List ℕ = part body 3 middle in
       let s : List ℕ = part body (middle + 3) (length body) in
       let one = then_some (leftover_meaning levels names left) _ (rw (t.pieces, t.first_tag, t.second_tag) at e) in
       let other = then_some (typed_under under levels names s) _ one.2 in
-      both_use left s one.0 other.0 p one.1 other.1 (some-injective (both one.0 other.0) p other.2) kept
-  by_parts body p e kept Unframed t = never (sym (some_there none (sym (t (leftover_meaning levels names) (typed_under under levels names)) ∙ e)))
+      both_use left s one.0 other.0 p one.1 other.1 (same_Some (both one.0 other.0) p other.2) kept
+  by_parts body p e kept Unframed t = never (sym (some_there None (sym (t (leftover_meaning levels names) (typed_under under levels names)) ∙ e)))
 
   pub uses_place : PlaceUses under levels names schema table node
   unfolding place_within place_by

@@ -1,7 +1,7 @@
 -- What a place of a lawful row is rebuilt to is the normal form of what it means: by its parts, and by induction over its node.
+use Rattle.std.specs.Prelude.{Option, None, Some}
 use mathlib.Core.Bool.{Bool, true, false, cond}
 use mathlib.Core.List.{List, [], ◌∷◌}
-use mathlib.Core.Option.{Option, none, some}
 use mathlib.Core.Path.{◌≡◌, refl, sym, ap, ◌∙◌}
 use Prim.Native.Nat.{ℕ, ◌+◌, ◌-◌, ◌≤◌, ◌<◌}
 use native.Mathlib.Omega.{arith}
@@ -43,7 +43,7 @@ use Rattle.schemas.specs.Positions.{field_node, Stands}
 use Rattle.writing.proofs.MeaningLaws.{rewritten_is}
 use Rattle.writing.specs.Rewritten.{rewritten}
 
-left_means : (levels : ℕ) (names : Dictionary) (left : List ℕ) {d : Doc} → leftover_meaning levels names left ≡ some d → meaning_of levels names left ≡ some d
+left_means : (levels : ℕ) (names : Dictionary) (left : List ℕ) {d : Doc} → leftover_meaning levels names left ≡ Some d → meaning_of levels names left ≡ Some d
 unfolding leftover_meaning
 left_means levels names left e = (given_some (leb (length left) most_leftover) (meaning_of levels names left) e).1
 
@@ -77,7 +77,7 @@ module _ (names normal : Dictionary) (ranks schema table : List ℕ) where
         (record {
           on_fields = keep.on_fields;
           apart = keep.apart;
-          means = left_means levels names left e ∙ ap some keep.is;
+          means = left_means levels names left e ∙ ap Some keep.is;
           numbered = numbered_front (ids_in levels left) _ numbered;
           fits = part_fits body 3 middle fits;
         })
@@ -123,10 +123,10 @@ module _ (names normal : Dictionary) (ranks schema table : List ℕ) where
 -- ---- a lawful place, by its bytes
 
 -- Lawful is what is there and keeps the rules.
-lawful_there : {A : Type 0} (x : Option A) (keeps : A → Bool) → verdict_of x keeps ≡ Lawful → (a : A) × (x ≡ some a) × (keeps a ≡ true)
+lawful_there : {A : Type 0} (x : Option A) (keeps : A → Bool) → verdict_of x keeps ≡ Lawful → (a : A) × (x ≡ Some a) × (keeps a ≡ true)
 unfolding verdict_of
-lawful_there none keeps e = absurd (let z : ◌≡◌ {A = ℕ} 0 1 = cc in omega arith)
-lawful_there (some a) keeps e = (a, refl, go (keeps a) e)
+lawful_there None keeps e = absurd (let z : ◌≡◌ {A = ℕ} 0 1 = cc in omega arith)
+lawful_there (Some a) keeps e = (a, refl, go (keeps a) e)
   where
     go : (b : Bool) → cond b Lawful Broken ≡ Lawful → b ≡ true
     go true f = refl

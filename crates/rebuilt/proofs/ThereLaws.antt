@@ -1,7 +1,7 @@
 -- Stepping through a lawful row: what a place holds by its parts, and what is typed in it by the kind of its node.
+use Rattle.std.specs.Prelude.{Option, None, Some}
 use mathlib.Core.Bool.{Bool, true, false, ◌||◌}
 use mathlib.Core.List.{List}
-use mathlib.Core.Option.{Option, none, some}
 use mathlib.Core.Path.{◌≡◌, refl, sym, ap, ◌∙◌}
 use Prim.Native.Nat.{ℕ, ◌+◌, ◌-◌, ◌≤◌}
 use native.Mathlib.Omega.{arith}
@@ -51,21 +51,21 @@ not_broken true Broken e = broken_not e
 not_broken true Lawful e = broken_not e
 not_broken false v e = (refl, e)
 
-left_lawful : (x : Option Doc) (next : Doc → Verdict) → with_left x next ≡ Lawful → (d : Doc) × (x ≡ some d) × (next d ≡ Lawful)
+left_lawful : (x : Option Doc) (next : Doc → Verdict) → with_left x next ≡ Lawful → (d : Doc) × (x ≡ Some d) × (next d ≡ Lawful)
 unfolding with_left
-left_lawful none next e = unparsed_not e
-left_lawful (some d) next e = (d, refl, e)
+left_lawful None next e = unparsed_not e
+left_lawful (Some d) next e = (d, refl, e)
 
 -- ---- a place by its parts
 
 -- A leftover that means something.
 pub record LeftThere (levels : ℕ) (names : Dictionary) (left : List ℕ) : Type 0 where
   pub doc : Doc
-  pub means : meaning_of levels names left ≡ some doc
+  pub means : meaning_of levels names left ≡ Some doc
   pub few : length left ≤ most_leftover
 
-left_there : (levels : ℕ) (names : Dictionary) (left : List ℕ) {d : Doc} → leftover_meaning levels names left ≡ some d
-    → (meaning_of levels names left ≡ some d) × (length left ≤ most_leftover)
+left_there : (levels : ℕ) (names : Dictionary) (left : List ℕ) {d : Doc} → leftover_meaning levels names left ≡ Some d
+    → (meaning_of levels names left ≡ Some d) × (length left ≤ most_leftover)
 unfolding leftover_meaning
 left_there levels names left e =
     let told = given_some (leb (length left) most_leftover) (meaning_of levels names left) e in
@@ -74,7 +74,7 @@ left_there levels names left e =
 -- A leftover beside something typed: an object under an object's node, which names none of its fields.
 pub record BesideThere (levels : ℕ) (names : Dictionary) (schema : List ℕ) (node : ℕ) (under : Schema) (left : List ℕ) : Type 0 where
   pub members : Fields
-  pub means : meaning_of levels names left ≡ some (object members)
+  pub means : meaning_of levels names left ≡ Some (object members)
   pub few : length left ≤ most_leftover
   pub columns : SchemaFields
   pub under_is : under ≡ fields columns
@@ -86,7 +86,7 @@ no_or true b e = never e
 no_or false b e = (refl, e)
 
 beside_there : {levels : ℕ} {names : Dictionary} {schema : List ℕ} {node : ℕ} {left : List ℕ} (under : Schema) → Stands levels schema node under → (d : Doc)
-    → leftover_meaning levels names left ≡ some d → beside_broken under d ≡ false → BesideThere levels names schema node under left
+    → leftover_meaning levels names left ≡ Some d → beside_broken under d ≡ false → BesideThere levels names schema node under left
 unfolding beside_broken is_fields_node is_object named_by has_any kind_of
 beside_there leftover_only stands d e kept = never kept
 beside_there (column said) stands d e kept = never kept
@@ -117,7 +117,7 @@ module _ {levels : ℕ} {names : Dictionary} {schema table : List ℕ} {node : �
       }
 
   module _ {middle : ℕ} (e : p ≡ Both middle) where
-    beside_lawful : (d : Doc) × (leftover_meaning levels names (part body 3 middle) ≡ some d)
+    beside_lawful : (d : Doc) × (leftover_meaning levels names (part body 3 middle) ≡ Some d)
         × (broken_if (beside_broken there.under d) (typed_verdict there.under levels names (part body (middle + 3) (length body))) ≡ Lawful)
     beside_lawful = left_lawful _ _ (sym (place_both there.under levels names body middle (told_by body is e)) ∙ there.lawful)
 
@@ -139,10 +139,10 @@ module _ {levels : ℕ} {names : Dictionary} {schema table : List ℕ} {node : �
 
 -- ---- what is typed, by the kind of its node
 
-cell_there : (said : Column) (x : Option Scalar) → verdict_of (and_then x λ value. some (cell said value)) cell_lawful ≡ Lawful → is_there x ≡ true
+cell_there : (said : Column) (x : Option Scalar) → verdict_of (and_then x λ value. Some (cell said value)) cell_lawful ≡ Lawful → is_there x ≡ true
 unfolding verdict_of and_then is_there
-cell_there said none e = unparsed_not e
-cell_there said (some value) e = refl
+cell_there said None e = unparsed_not e
+cell_there said (Some value) e = refl
 
 module _ {levels : ℕ} {names : Dictionary} {schema table : List ℕ} {node : ℕ} {body : List ℕ} (there : TypedThere levels names schema table node body) where
   pub typed_kind : KindThere schema node

@@ -1,8 +1,8 @@
 -- What is typed in a place is rebuilt to the normal form of what it means, if the places inside it are: a cell, a list's
 -- places, an object's places merged with the members of a leftover.
+use Rattle.std.specs.Prelude.{Option, None, Some}
 use mathlib.Core.Bool.{true, false, not, ◌&&◌}
 use mathlib.Core.List.{List, [], ◌∷◌, map}
-use mathlib.Core.Option.{Option, none, some, some-injective}
 use mathlib.Core.Path.{◌≡◌, refl, sym, ap, ◌∙◌}
 use Prim.Native.Nat.{ℕ, ◌+◌, ◌-◌}
 use Rattle.marking.specs.Ids.{ids_in}
@@ -30,24 +30,25 @@ use Rattle.rebuilt.specs.Members.{no_left}
 use Rattle.rebuilt.specs.Rebuilt.{cell_value, listed, pieces_in, place_rebuilt, member_places, typed_rebuilt}
 use Rattle.rebuilt.specs.There.{Numbered}
 use Rattle.rebuilt.specs.Using.{place_ids, member_ids, element_ids, typed_ids}
+use Rattle.std.proofs.lemmas.Option.{same_Some}
 
 -- ---- inner places that parsed
 
 record InnerRead (read : List Piece → Option Places) (s : List ℕ) (t : Typed) : Type 0 where
   pieces : List Piece
   ps : Places
-  framed : pieces_of s ≡ some pieces
-  are : read pieces ≡ some ps
+  framed : pieces_of s ≡ Some pieces
+  are : read pieces ≡ Some ps
   is : inner ps ≡ t
 
-inner_read : (read : List Piece → Option Places) (s : List ℕ) (t : Typed) → inner_body read s ≡ some t → InnerRead read s t
+inner_read : (read : List Piece → Option Places) (s : List ℕ) (t : Typed) → inner_body read s ≡ Some t → InnerRead read s t
 unfolding inner_body
 inner_read read s t e =
     let framed = then_some (pieces_of s) _ e in
     let are = then_some (read framed.0) _ framed.2 in
-    record { pieces = framed.0; ps = are.0; framed = framed.1; are = are.1; is = some-injective (inner are.0) t are.2 }
+    record { pieces = framed.0; ps = are.0; framed = framed.1; are = are.1; is = same_Some (inner are.0) t are.2 }
 
-pieces_in_lem : (s : List ℕ) (pieces : List Piece) → pieces_of s ≡ some pieces → pieces_in s ≡ pieces
+pieces_in_lem : (s : List ℕ) (pieces : List Piece) → pieces_of s ≡ Some pieces → pieces_in s ≡ pieces
 unfolding pieces_in listed
 pieces_in_lem s pieces e = rw e
 
@@ -56,7 +57,7 @@ module _ (names normal : Dictionary) (ranks schema table : List ℕ) where
 
   -- A place that parsed and keeps its rules, and whose ids are numbered, ..
   pub record PlaceHere (under : Schema) (levels node : ℕ) (piece : Piece) (p : Place) : Type 0 where
-    pub read : place_under under levels names piece ≡ some p
+    pub read : place_under under levels names piece ≡ Some p
     pub lawful : place_lawful under names p ≡ true
     pub numbered : Numbered names normal ranks (place_ids under levels schema table node piece.body)
     pub fits : Fits piece.body
@@ -69,7 +70,7 @@ module _ (names normal : Dictionary) (ranks schema table : List ℕ) where
 
   -- The same of an object's places.
   pub record MembersHere (columns : SchemaFields) (levels field : ℕ) (pieces : List Piece) (ps : Places) : Type 0 where
-    pub read : field_places columns levels names pieces ≡ some ps
+    pub read : field_places columns levels names pieces ≡ Some ps
     pub lawful : fields_lawful columns names ps ≡ true
     pub numbered : Numbered names normal ranks (member_ids columns levels schema table field pieces)
     pub fit : AllFit pieces
@@ -81,7 +82,7 @@ module _ (names normal : Dictionary) (ranks schema table : List ℕ) where
 
   -- What is typed in a place, ..
   pub record TypedHere (under : Schema) (levels node : ℕ) (s : List ℕ) (t : Typed) : Type 0 where
-    pub read : typed_under under levels names s ≡ some t
+    pub read : typed_under under levels names s ≡ Some t
     pub lawful : typed_lawful under names t ≡ true
     pub numbered : Numbered names normal ranks (typed_ids under levels schema table node s)
     pub fits : Fits s
@@ -90,7 +91,7 @@ module _ (names normal : Dictionary) (ranks schema table : List ℕ) where
   pub record BesideHere (under : Schema) (levels : ℕ) (left : List ℕ) (fs : Fields) : Type 0 where
     pub on_fields : is_fields_node under ≡ true
     pub apart : any_named (named_by under) fs ≡ false
-    pub means : meaning_of levels names left ≡ some (object fs)
+    pub means : meaning_of levels names left ≡ Some (object fs)
     pub numbered : Numbered names normal ranks (ids_in levels left)
     pub fits : Fits left
 
@@ -106,7 +107,7 @@ module _ (names normal : Dictionary) (ranks schema table : List ℕ) where
   unfolding typed_under no_body is_there is_fields_node
   leftover_typed levels node =
       record {
-        alone = λ s t here. never (sym (some_there none here.read));
+        alone = λ s t here. never (sym (some_there None here.read));
         beside = λ left s fs t with-left here. never (sym with-left.on_fields);
       }
 
@@ -114,9 +115,9 @@ module _ (names normal : Dictionary) (ranks schema table : List ℕ) where
       → cell_value said.code s ≡ value_bytes normal (typed_meaning (column said) t)
   unfolding typed_under cell_body typed_meaning cell_doc value_bytes
   cell_alone said levels node s t here =
-      let told = then_some (cell_meaning said s) (λ value. some (cell said value)) here.read in
+      let told = then_some (cell_meaning said s) (λ value. Some (cell said value)) here.read in
       cell_is said.code s told.1
-      ∙ ap (λ (c : Typed). value_bytes normal (typed_meaning (column said) c)) (some-injective (cell said told.0) t told.2)
+      ∙ ap (λ (c : Typed). value_bytes normal (typed_meaning (column said) c)) (same_Some (cell said told.0) t told.2)
 
   pub cell_typed : (said : Column) (levels node : ℕ) → TypedIs (column said) levels node
   unfolding typed_rebuilt is_fields_node
@@ -129,17 +130,17 @@ module _ (names normal : Dictionary) (ranks schema table : List ℕ) where
   -- ---- a list's places
 
   module _ (element : Schema) (levels node : ℕ) (each : PlaceIs element levels node) where
-    elements_are : (pieces : List Piece) (ps : Places) → list_places (place_under element levels names) pieces ≡ some ps
+    elements_are : (pieces : List Piece) (ps : Places) → list_places (place_under element levels names) pieces ≡ Some ps
         → elements_lawful (place_lawful element names) ps ≡ true → Numbered names normal ranks (element_ids element levels schema table node pieces) → AllFit pieces
         → map (λ (piece : Piece). place_rebuilt element levels ranks schema table node piece.body) pieces
         ≡ element_bytes normal (list_meaning (place_meaning element) ps)
     unfolding list_places elements_lawful element_ids joined list_meaning element_bytes
     elements_are [] ps read lawful numbered fit =
-        ap (λ (l : Places). element_bytes normal (list_meaning (place_meaning element) l)) (some-injective no_places ps read)
+        ap (λ (l : Places). element_bytes normal (list_meaning (place_meaning element) l)) (same_Some no_places ps read)
     elements_are (piece ∷ more) ps read lawful numbered (one_fits fits fit) =
         let first = then_some (place_under element levels names piece) _ read in
         let rest = then_some (list_places (place_under element levels names) more) _ first.2 in
-        let is : place first.0 rest.0 ≡ ps = some-injective (place first.0 rest.0) ps rest.2 in
+        let is : place first.0 rest.0 ≡ ps = same_Some (place first.0 rest.0) ps rest.2 in
         let keep = and_both (not (breaks_e first.0) && place_lawful element names first.0) (elements_lawful (place_lawful element names) rest.0)
         (ap (elements_lawful (place_lawful element names)) is ∙ lawful) in
         let own = and_both (not (breaks_e first.0)) (place_lawful element names first.0) keep.0 in

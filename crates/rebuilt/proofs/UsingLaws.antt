@@ -1,8 +1,8 @@
 -- The ids that a place of a lawful row uses are ids of the dictionary, and name exactly the names that its meaning uses: by its
 -- node and what is inside it. A field that is present has its name in the dictionary (rule f), so the table tells its id.
+use Rattle.std.specs.Prelude.{Option, None, Some}
 use mathlib.Core.Bool.{Bool, true, false, cond, not, ◌&&◌, ◌||◌}
 use mathlib.Core.List.{List, [], ◌∷◌}
-use mathlib.Core.Option.{Option, none, some, some-injective}
 use mathlib.Core.Path.{◌≡◌, refl, sym, ap, ◌∙◌}
 use Prim.Native.Nat.{ℕ, ◌+◌, ◌-◌}
 use lib.Dec.{eqb}
@@ -34,6 +34,7 @@ use Rattle.rebuilt.specs.Using.{place_ids, member_ids, element_ids, typed_ids}
 use Rattle.rebuilt.proofs.PartsLaws.{typed_meaning, meaning_parts}
 use Rattle.rebuilt.proofs.PlaceUsesLaws.{TypedUses, PlaceUses, uses_place}
 use Rattle.rebuilt.proofs.UsesLaws.{Uses, uses_none, uses_as, uses_both, uses_elements, uses_field}
+use Rattle.std.proofs.lemmas.Option.{same_Some}
 
 -- ---- a field's place
 
@@ -48,7 +49,7 @@ meant_present node p = rw (meaning_parts node) (go p)
     go (typed t) = refl
     go (both d t) = refl
 
-module _ (names : Dictionary) (name : List ℕ) (node : Schema) (levels : ℕ) (piece : Piece) (p : Place) (read : place_under node levels names piece ≡ some p) where
+module _ (names : Dictionary) (name : List ℕ) (node : Schema) (levels : ℕ) (piece : Piece) (p : Place) (read : place_under node levels names piece ≡ Some p) where
   has_bytes : is_there (place_meaning node p) ≡ not (eqb (length piece.body) 0)
   unfolding place_within place_by given
   has_bytes =
@@ -79,13 +80,13 @@ module _ (names : Dictionary) (name : List ℕ) (node : Schema) (levels : ℕ) (
 
 -- ---- inner places
 
-inner_read : (read : List Piece → Option Places) (s : List ℕ) (t : Typed) → inner_body read s ≡ some t
-    → (ps : Places) × (read (pieces_in s) ≡ some ps) × (inner ps ≡ t)
+inner_read : (read : List Piece → Option Places) (s : List ℕ) (t : Typed) → inner_body read s ≡ Some t
+    → (ps : Places) × (read (pieces_in s) ≡ Some ps) × (inner ps ≡ t)
 unfolding inner_body pieces_in listed
 inner_read read s t e =
     let pieces = then_some (pieces_of s) _ e in
     let places = then_some (read pieces.0) _ pieces.2 in
-    (places.0, ap (λ (x : Option (List Piece)). read (listed x)) pieces.1 ∙ places.1, some-injective (inner places.0) t places.2)
+    (places.0, ap (λ (x : Option (List Piece)). read (listed x)) pieces.1 ∙ places.1, same_Some (inner places.0) t places.2)
 
 list_uses : (element : Schema) (levels : ℕ) (names : Dictionary) (schema table : List ℕ) (node : ℕ)
     → PlaceUses element (levels - 1) names schema table (node + 3) → TypedUses (list element) levels names schema table node
@@ -98,7 +99,7 @@ list_uses element levels names schema table node each s t e lawful =
 
 abbrev MembersUse : SchemaFields → (levels : ℕ) → Dictionary → (schema table : List ℕ) → (field : ℕ) → Type 0
 MembersUse columns levels names schema table field =
-    (pieces : List Piece) (ps : Places) → field_places columns levels names pieces ≡ some ps → fields_lawful columns names ps ≡ true
+    (pieces : List Piece) (ps : Places) → field_places columns levels names pieces ≡ Some ps → fields_lawful columns names ps ≡ true
     → Uses names (member_ids columns levels schema table field pieces) (λ name. used_in_fields name (fields_meaning columns ps))
 
 object_uses : (columns : SchemaFields) (levels : ℕ) (names : Dictionary) (schema table : List ℕ) (node : ℕ)
@@ -116,11 +117,11 @@ members_next : (name : List ℕ) (node : Schema) (columns : SchemaFields) (level
     → Tells names name (looked_at table field) → PlaceUses node levels names schema table (field_node schema field)
     → MembersUse columns levels names schema table (frame_end schema field) → MembersUse (named name node columns) levels names schema table field
 unfolding field_places fields_lawful is_there
-members_next name node columns levels names schema table field tells each others [] ps e lawful = never (sym (some_there none e))
+members_next name node columns levels names schema table field tells each others [] ps e lawful = never (sym (some_there None e))
 members_next name node columns levels names schema table field tells each others (piece ∷ more) ps e lawful =
     let first = then_some (place_under node levels names piece) _ e in
     let rest = then_some (field_places columns levels names more) _ first.2 in
-    let are : place first.0 rest.0 ≡ ps = some-injective (place first.0 rest.0) ps rest.2 in
+    let are : place first.0 rest.0 ≡ ps = same_Some (place first.0 rest.0) ps rest.2 in
     let kept = and_both (not (breaks_f names name first.0) && place_lawful node names first.0) (fields_lawful columns names rest.0) (rw (← are) at lawful) in
     let own = and_both (not (breaks_f names name first.0)) (place_lawful node names first.0) kept.0 in
     rw (← are)
@@ -159,10 +160,10 @@ mutual
 
 -- ---- a lawful place
 
-lawful_there : {A : Type 0} (x : Option A) (keeps : A → Bool) → verdict_of x keeps ≡ Lawful → (a : A) × (x ≡ some a) × (keeps a ≡ true)
+lawful_there : {A : Type 0} (x : Option A) (keeps : A → Bool) → verdict_of x keeps ≡ Lawful → (a : A) × (x ≡ Some a) × (keeps a ≡ true)
 unfolding verdict_of
-lawful_there none keeps e = never cc
-lawful_there (some a) keeps e = (a, refl, go (keeps a) e)
+lawful_there None keeps e = never cc
+lawful_there (Some a) keeps e = (a, refl, go (keeps a) e)
   where
     go : (b : Bool) → cond b Lawful Broken ≡ Lawful → b ≡ true
     go true f = refl

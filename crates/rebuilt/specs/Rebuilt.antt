@@ -1,11 +1,9 @@
 -- What a place of a lawful row is rebuilt to, read off its own bytes: a leftover's normal form; a cell as a value; a list's
 -- places as an array; an object's places and its leftover's members as one object. An id is changed by its place in a table.
 -- (Where a lawful row has nothing, nothing is rebuilt.)
-use Rattle.std.specs.Prelude.{cond, List, [], ◌∷◌, map, ℕ, ◌+◌, ◌-◌, ◌*◌, eqb, length}
-use Rattle.std.proofs.Math.Option.{Option, none, some}
+use Rattle.dictionary.specs.declared.ids.InputId.{InputId}
+use Rattle.std.specs.Prelude.{cond, List, [], ◌∷◌, map, ℕ, ◌+◌, ◌-◌, ◌*◌, eqb, length, Option, None, Some}
 use Rattle.fields.specs.Telling.{looked_at}
-use Rattle.lookup.specs.declared.Looked.{Looked}
-use Rattle.lookup.specs.declared.Looked.TheVariants.{At, Nowhere}
 use Rattle.paper.specs.Framing.{Piece, pieces_of}
 use Rattle.paper.specs.Normal.{text_bytes, prefixed_bytes, array_bytes}
 use Rattle.paper.specs.Schemas.{Schema, leftover_only, column, list, fields, SchemaFields, none_named, named}
@@ -26,8 +24,8 @@ cell_value code s =
 
 -- The pieces of framed bytes.
 unfoldable pub listed : Option (List Piece) → List Piece
-listed none = []
-listed (some pieces) = pieces
+listed None = []
+listed (Some pieces) = pieces
 
 unfoldable pub pieces_in : List ℕ → List Piece
 pieces_in s = listed (pieces_of s)
@@ -41,10 +39,10 @@ rebuilt_by nothing empty alone inside (Both middle) body = inside (part body 3 m
 rebuilt_by nothing empty alone inside Unframed body = nothing
 
 -- A schema field that is present is a member.
-unfoldable pub add_member : (body : List ℕ) → Looked → (bytes : List ℕ) → List Member → List Member
+unfoldable pub add_member : (body : List ℕ) → Option InputId → (bytes : List ℕ) → List Member → List Member
 add_member [] looked bytes ms = ms
-add_member (b ∷ bs) (At id) bytes ms = record { id = id.0; bytes = bytes } ∷ ms
-add_member (b ∷ bs) Nowhere bytes ms = ms
+add_member (b ∷ bs) (Some id) bytes ms = record { id = id.0; bytes = bytes } ∷ ms
+add_member (b ∷ bs) None bytes ms = ms
 
 unfoldable mutual
   -- A place under a node that stands at a position of the schema, with so many levels left.

@@ -1,8 +1,7 @@
 -- The ids that a place uses: those inside its leftovers, and those of the schema fields that are present in it.
-use Rattle.std.specs.Prelude.{List, [], ◌∷◌, ◌++◌, map, ℕ, ◌+◌, ◌-◌}
+use Rattle.dictionary.specs.declared.ids.InputId.{InputId}
+use Rattle.std.specs.Prelude.{List, [], ◌∷◌, ◌++◌, map, ℕ, ◌+◌, ◌-◌, Option, Some, None}
 use Rattle.fields.specs.Telling.{looked_at}
-use Rattle.lookup.specs.declared.Looked.{Looked}
-use Rattle.lookup.specs.declared.Looked.TheVariants.{At, Nowhere}
 use Rattle.marking.specs.Ids.{ids_in}
 use Rattle.paper.specs.Framing.{Piece}
 use Rattle.paper.specs.Schemas.{Schema, leftover_only, column, list, fields, SchemaFields, none_named, named}
@@ -13,10 +12,10 @@ use Rattle.schemas.specs.Positions.{field_node}
 use Rattle.rebuilt.specs.Rebuilt.{rebuilt_by, pieces_in}
 
 -- The id of a schema field that is present.
-unfoldable pub add_id : (body : List ℕ) → Looked → List ℕ → List ℕ
+unfoldable pub add_id : (body : List ℕ) → Option InputId → List ℕ → List ℕ
 add_id [] looked ids = ids
-add_id (b ∷ bs) (At id) ids = id.0 ∷ ids
-add_id (b ∷ bs) Nowhere ids = ids
+add_id (b ∷ bs) (Some id) ids = id.0 ∷ ids
+add_id (b ∷ bs) None ids = ids
 
 unfoldable mutual
   -- Of a place under a node that stands at a position of the schema, with so many levels left.

@@ -1,4 +1,5 @@
 -- The words of a cell: a float's and a double's bits come out as they were lent, a NaN's too.
+use Rattle.std.specs.Prelude.{Ok}
 use mathlib.Core.List.{List}
 use mathlib.Core.Path.{◌≡◌, refl, sym, ap, ◌∙◌}
 use Prim.Native.Nat.{ℕ, ◌^◌, ◌<◌}
@@ -12,7 +13,6 @@ use Rattle.paper.specs.FirstBytes.{payload_sizes, length_prefixed}
 use Rattle.paper.specs.Operations.{cell_answer}
 use Rattle.paper.specs.Schemas.{column_code}
 use Rattle.paper.specs.declared.Cell.TheVariants as variants
-use Rattle.paper.specs.declared.CellAnswer.TheVariants.{Read}
 use Rattle.words.specs.CellParts.{first_word}
 use Rattle.cells.proofs.CellLaws.{sized_good, number_read, meaning}
 use Rattle.numbers.proofs.NumberLaws.{number_below}
@@ -23,7 +23,7 @@ module _ (s : List ℕ) (bytes : (i : ℕ) → get_or s i 0 < 256) where
   unfolding number_cell column_code payload_sizes length_prefixed
   double_bits_unchanged e =
       let small : number s < 256 ^ 8 = number_below s 8 (omega arith) bytes in
-      let read : Read (number_cell 7 s) ≡ cell_answer 7 s =
+      let read : Ok (number_cell 7 s) ≡ cell_answer 7 s =
       meaning 7 s (omega arith) refl refl
       (number_read 7 s (sym (sized_good 7 s (λ z. omega arith) (λ z. omega arith) (λ z. omega arith) 8 refl) ∙ eq-eqb (length s) 8 e)
       (λ z. omega arith) (λ z. omega arith) (λ z. omega arith) refl) in
@@ -33,7 +33,7 @@ module _ (s : List ℕ) (bytes : (i : ℕ) → get_or s i 0 < 256) where
   unfolding number_cell column_code payload_sizes length_prefixed
   float_bits_unchanged e =
       let small : number s < 256 ^ 4 = number_below s 4 (omega arith) bytes in
-      let read : Read (number_cell 14 s) ≡ cell_answer 14 s =
+      let read : Ok (number_cell 14 s) ≡ cell_answer 14 s =
       meaning 14 s (omega arith) refl refl
       (number_read 14 s (sym (sized_good 14 s (λ z. omega arith) (λ z. omega arith) (λ z. omega arith) 4 refl) ∙ eq-eqb (length s) 4 e)
       (λ z. omega arith) (λ z. omega arith) (λ z. omega arith) refl) in

@@ -2,66 +2,40 @@
 // definition of `paper`. Each stands in `register_c` as a function for C.
 #![tactic(auto)]
 
-ghost use Rattle.std.specs.Prelude.{◌≡◌, true, ◌≤◌, length};
-ghost use Rattle.std.proofs.Math.Option.{some};
-ghost use Rattle.dictionary.specs.Judging.{Opened};
-ghost use Rattle.paper.specs.Bounds.{most_walked};
-ghost use Rattle.paper.specs.Limits.{most_levels, most_schema};
-ghost use Rattle.paper.specs.Meaning.{Doc};
-ghost use Rattle.paper.specs.Metadata.{names_in};
-ghost use Rattle.normalise.specs.Answered.{Answered, Lent};
-ghost use Rattle.paper.specs.Operations.{normalise_outcome, row_outcome, shred_outcome, rebuild_outcome, check_answer, find_answer, judge_answer, found_by, cell_answer, box_answer};
-ghost use Rattle.paper.specs.Paths.{path_of, find_from};
-ghost use Rattle.paper.specs.Refusals.{obtain, reached};
-ghost use Rattle.paper.specs.Schemas.{schema_of};
-ghost use Rattle.paper.specs.Values.{meaning_of};
-ghost use Rattle.paper.specs.Words.{is_there};
+ghost use Rattle.std.specs.Prelude.{◌≡◌, true, Err, MatchResult};
+ghost use Rattle.normalise.specs.Answered.{Answered};
+ghost use Rattle.paper.specs.Operations.{normalise_outcome, shred_outcome, rebuild_outcome, check_answer, find_answer, judge_answer, cell_answer, box_answer};
 ghost use Rattle.handing.specs.Handing.{RowAnswered};
+ghost use Rattle.rebuild.specs.Rebuilding.{Judged};
 ghost use Rattle.words.specs.Boundary.{document_has_room};
 
-use dictionary::Names;
-use documents::Document;
-use paper::{BoxAnswer, CellAnswer, Checked, DocumentAnswer, Found, Refusal, RowAnswer};
-use rows::RowJudged;
+use paper::{Cell, Child, DocumentAnswer, LotBox, Refusal, RowAnswer, Unwritten};
+use rows::RowParts;
 
 // ---- check
 
 // Checks a Variant: its metadata and its value.
-pub fn check(metadata: &[u8], value: &[u8]) -> Checked
+pub fn check(metadata: &[u8], value: &[u8]) -> Result<(), Refusal>
     ensures { result ≡ check_answer metadata.now value.now }
 {
-    let judged = documents::judge(metadata, value);
-    match judged {
-        Document::Lawful(_) => Checked::Good,
-        Document::Refused(refusal) => Checked::Refused(refusal),
-    }
+    documents::judge(metadata, value)?;
+    Ok(())
 }
 
 // ---- find
 
-// A path in a lawful document.
-fn find_in(metadata: &[u8], names: Names, value: &[u8], path: &[u8]) -> Found
-    requires { Opened metadata.now names × (is_there (meaning_of most_levels (names_in metadata.now) value.now) ≡ true) × (length value.now ≤ most_walked) }
-    ensures { result ≡ found_by (obtain (path_of path.now) Refusal.BadPath λ steps. reached (find_from (names_in metadata.now) steps 0 value.now)) }
-{
-    if paths::path_good(path) {
-        return paths::find(metadata, names, value, path);
-    }
-    Found::Refused(Refusal::BadPath)
-}
-
 // Finds a path: the start and the length, in the value, of the part that it leads to.
-pub fn find(metadata: &[u8], value: &[u8], path: &[u8]) -> Found
+pub fn find(metadata: &[u8], value: &[u8], path: &[u8]) -> Result<Option<Child>, Refusal>
     ensures { result ≡ find_answer metadata.now value.now path.now }
 {
     if paper::MOST_PATH < path.len() {
-        return Found::Refused(Refusal::TooLong);
+        return Err(Refusal::TooLong);
     }
-    let judged = documents::judge(metadata, value);
-    match judged {
-        Document::Lawful(names) => find_in(metadata, names, value, path),
-        Document::Refused(refusal) => Found::Refused(refusal),
+    let dictionary = documents::judge(metadata, value)?;
+    if !paths::path_good(path) {
+        return Err(Refusal::BadPath);
     }
+    Ok(paths::find(&dictionary, value, path))
 }
 
 // ---- normalise
@@ -75,70 +49,52 @@ pub fn normalise(
 ) -> DocumentAnswer
     ensures { Answered (normalise_outcome metadata.now value.now) metadata_out.old metadata_out.new value_out.old value_out.new result }
 {
-    let judged = documents::judge(metadata, value);
-    match judged {
-        Document::Lawful(names) => {
-            normalise::normalise(metadata, names, value, metadata_out, value_out)
-        }
-        Document::Refused(refusal) => DocumentAnswer::Refused(refusal),
-    }
+    let dictionary = documents::judge(metadata, value)?;
+    normalise::normalise(&dictionary, value, metadata_out, value_out)
 }
 
 // ---- shred
-
-// A lawful document under a schema, which is judged behind the document.
-fn shred_lawful(
-    schema: &[u8],
-    metadata: &[u8],
-    names: Names,
-    value: &[u8],
-    row: &mut [u8],
-) -> RowAnswer
-    requires { Lent metadata.now names value.now × (length schema.now ≤ most_schema) }
-    ensures { (d : Doc) → meaning_of most_levels (names_in metadata.now) value.now ≡ some d → RowAnswered (obtain (schema_of schema.now) Refusal.BadSchema λ node. row_outcome node d) row.old row.new result }
-{
-    if schemas::good(schema) {
-        return shred::shred(schema, metadata, names, value, row);
-    }
-    RowAnswer::Refused(Refusal::BadSchema)
-}
 
 // Shreds a Variant under a schema: writes its row into a buffer.
 pub fn shred(schema: &[u8], metadata: &[u8], value: &[u8], row: &mut [u8]) -> RowAnswer
     ensures { RowAnswered (shred_outcome schema.now metadata.now value.now) row.old row.new result }
 {
     if paper::MOST_SCHEMA < schema.len() {
-        return RowAnswer::Refused(Refusal::TooLong);
+        return Err(Unwritten::Refused(Refusal::TooLong));
     }
-    let judged = documents::judge(metadata, value);
-    match judged {
-        Document::Lawful(names) => shred_lawful(schema, metadata, names, value, row),
-        Document::Refused(refusal) => RowAnswer::Refused(refusal),
+    let dictionary = documents::judge(metadata, value)?;
+    if !schemas::good(schema) {
+        return Err(Unwritten::Refused(Refusal::BadSchema));
     }
+    shred::shred(schema, &dictionary, value, row)
 }
 
 // ---- a row judged
 
-// Judges a row under a schema, as rebuild does before it writes: 1, 4, 6 and 7.
-pub fn judge(schema: &[u8], row: &[u8]) -> Checked
-    ensures { result ≡ judge_answer schema.now row.now }
+// A row judged under a schema: 1, 4, 6 and 7. Of a lawful row the table tells each schema field's id in its dictionary.
+fn judge_row<'a>(
+    schema: &[u8],
+    row: &'a [u8],
+    table: &mut [u16; 456],
+) -> Result<RowParts<'a>, Refusal>
+    ensures { MatchResult result (λ parts. (judged : Judged schema.now parts table.new) × (judged.bytes ≡ row.now)) (λ refusal. Err refusal ≡ judge_answer schema.now row.now) }
 {
-    if paper::MOST_SCHEMA < schema.len() {
-        return Checked::Refused(Refusal::TooLong);
-    }
-    if paper::MOST_ROW < row.len() {
-        return Checked::Refused(Refusal::TooLong);
+    if paper::MOST_SCHEMA < schema.len() || paper::MOST_ROW < row.len() {
+        return Err(Refusal::TooLong);
     }
     if !schemas::good(schema) {
-        return Checked::Refused(Refusal::BadSchema);
+        return Err(Refusal::BadSchema);
     }
-    let mut table = [0u16; 456];
-    let judged = rows::judge(schema, row, &mut table);
-    match judged {
-        RowJudged::Lawful(_) => Checked::Good,
-        RowJudged::Broken => Checked::Refused(Refusal::BrokenRule),
-        RowJudged::Unparsed => Checked::Refused(Refusal::BadRow),
-    }
+    rows::judge(schema, row, table)
+}
+
+// Judges a row under a schema, as rebuild does before it writes.
+pub fn judge(schema: &[u8], row: &[u8]) -> Result<(), Refusal>
+    ensures { result ≡ judge_answer schema.now row.now }
+{
+    let mut table = [0; 456];
+    judge_row(schema, row, &mut table)?;
+    Ok(())
 }
 
 // ---- rebuild
@@ -153,24 +109,9 @@ pub fn rebuild_row(
 ) -> DocumentAnswer
     ensures { Answered (rebuild_outcome schema.now row.now) metadata_out.old metadata_out.new value_out.old value_out.new result × (document_has_room result ≡ true) }
 {
-    if paper::MOST_SCHEMA < schema.len() {
-        return DocumentAnswer::Refused(Refusal::TooLong);
-    }
-    if paper::MOST_ROW < row.len() {
-        return DocumentAnswer::Refused(Refusal::TooLong);
-    }
-    if !schemas::good(schema) {
-        return DocumentAnswer::Refused(Refusal::BadSchema);
-    }
-    let mut table = [0u16; 456];
-    let judged = rows::judge(schema, row, &mut table);
-    match judged {
-        RowJudged::Lawful(parts) => {
-            rebuild::rebuild(schema, row, parts, &table, metadata_out, value_out)
-        }
-        RowJudged::Broken => DocumentAnswer::Refused(Refusal::BrokenRule),
-        RowJudged::Unparsed => DocumentAnswer::Refused(Refusal::BadRow),
-    }
+    let mut table = [0; 456];
+    let parts = judge_row(schema, row, &mut table)?;
+    rebuild::rebuild(schema, &parts, &table, metadata_out, value_out)
 }
 
 // Rebuilds a Variant from a row and its schema: writes the normal form into two buffers, metadata and value.
@@ -188,20 +129,17 @@ pub fn rebuild(
 // ---- a lot's box
 
 // Reads a lot's box from a document's outermost object.
-pub fn lot_box(metadata: &[u8], value: &[u8]) -> BoxAnswer
+pub fn lot_box(metadata: &[u8], value: &[u8]) -> Result<Option<LotBox>, Refusal>
     ensures { result ≡ box_answer metadata.now value.now }
 {
-    let judged = documents::judge(metadata, value);
-    match judged {
-        Document::Lawful(names) => boxes::lot_box(metadata, names, value),
-        Document::Refused(refusal) => BoxAnswer::Refused(refusal),
-    }
+    let dictionary = documents::judge(metadata, value)?;
+    Ok(boxes::lot_box(&dictionary, value))
 }
 
 // ---- one typed cell
 
 // Reads one typed cell, given a type code and its bytes.
-pub fn cell(code: u8, bytes: &[u8]) -> CellAnswer
+pub fn cell(code: u8, bytes: &[u8]) -> Result<Cell, Refusal>
     ensures { result ≡ cell_answer code bytes.now }
 {
     cells::cell(code, bytes)

@@ -1,4 +1,5 @@
 -- Noted members copied last to first: those from one on stand so that they end at a place.
+use Rattle.std.specs.Prelude.{Some, None}
 use mathlib.Core.List.{List, [], ◌∷◌, ◌++◌}
 use mathlib.Core.Path.{◌≡◌, refl, sym, ap, ◌∙◌}
 use Prim.Native.Nat.{ℕ, suc, ◌+◌, ◌-◌, ◌≤◌, ◌<◌}
@@ -10,7 +11,6 @@ use Rattle.members.specs.declared.Members.{Members}
 use Rattle.paper.specs.Words.{joined}
 use Rattle.putting.proofs.PutLaws.{parts_hold}
 use Rattle.putting.specs.Put.{Room, PutAs, put, full}
-use Rattle.putting.specs.declared.Put.TheVariants.{At, Full}
 use Rattle.writing.proofs.EndLaws.{nothing_ends, ends_join, ends_length}
 use Rattle.writing.specs.Ends.{EndsAt}
 use Rattle.remainder.specs.Left.{NotedThere, noted_parts}
@@ -40,7 +40,7 @@ module _ {s : List ℕ} {m : Members} {notes : List ℕ} {count : ℕ} (noted : 
       record { within = omega arith; same_size = refl; ends = rw none (nothing_ends out end) }
 
   module _ {out₀ out : List ℕ} {end start i : ℕ} (room : Room out₀ 0 end) (seen : CopySeen s m notes count out₀ out end start i) where
-    pub copy_done : i ≤ 0 → PutAs (joined (noted_parts s m notes count)) out₀ out 0 end (At start)
+    pub copy_done : i ≤ 0 → PutAs (joined (noted_parts s m notes count)) out₀ out 0 end (Some start)
     copy_done over = let none : i ≡ 0 = omega arith in put start (omega arith) (rw none at seen.ends)
 
     pub copy_within : start ≤ length out
@@ -71,7 +71,7 @@ module _ {s : List ℕ} {m : Members} {notes : List ℕ} {count : ℕ} (noted : 
             ∙ ap (λ (j : ℕ). member_part s m j) (get_or-take count notes (i - 1) 0 here ∙ sym spotted) ∙ sym is in
             drop-cons (noted_parts s m notes count) (i - 1) (member_part s m 0) (omega arith) ∙ rw (one, next)
 
-        pub copy_full : start < length part → {after : List ℕ} → PutAs (joined (noted_parts s m notes count)) out₀ after 0 end Full
+        pub copy_full : start < length part → {after : List ℕ} → PutAs (joined (noted_parts s m notes count)) out₀ after 0 end None
         copy_full short =
             let all : List (List ℕ) = noted_parts s m notes count in
             let whole : take (i - 1) all ++ (part ∷ drop i all) ≡ all = rw (← further) (take-append-drop (i - 1) all) in

@@ -1,5 +1,4 @@
 -- Laws of what is left over of an object.
-pub mod TestLaws
 pub mod PassLaws
 pub mod CopyLaws
 pub mod UnnamedLaws

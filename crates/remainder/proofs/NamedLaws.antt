@@ -1,4 +1,6 @@
 -- Whether the fields that are left name a member, by the first of them: its id is the member's, or higher than it.
+use Rattle.dictionary.specs.declared.ids.InputId.{InputId}
+use Rattle.std.specs.Prelude.{Option}
 use mathlib.Core.Bool.{Bool, true, false, ◌&&◌}
 use mathlib.Core.List.{List, [], ◌∷◌}
 use mathlib.Core.Logic.{◌⊎◌, inl, inr}
@@ -11,7 +13,6 @@ use lib.ListN.{get_or}
 use Rattle.fields.proofs.TellingLaws.{field_told_lem}
 use Rattle.fields.specs.Telling.{looked_at, FieldsTold}
 use Rattle.lookup.specs.Looking.{Tells, found, missing}
-use Rattle.lookup.specs.declared.Looked.{Looked}
 use Rattle.names.proofs.IdLaws.{id_name, id_rises}
 use Rattle.names.proofs.RisingLaws.{rising_first}
 use Rattle.names.proofs.SameLaws.{among_first, among_at, among_either}
@@ -27,7 +28,7 @@ use Rattle.remainder.specs.Passing.{reaches_id, is_id, names_id}
 
 module _ (names : Dictionary) (rises : rising names ≡ true) (name : List ℕ) (in_names : among name names ≡ true) where
   -- The first field's id is the name's: it is of this name.
-  same_name : {first : List ℕ} {looked : Looked} → Tells names first looked → is_id looked (id_of names name) ≡ true → first ≡ name
+  same_name : {first : List ℕ} {looked : Option InputId} → Tells names first looked → is_id looked (id_of names name) ≡ true → first ≡ name
   unfolding is_id
   same_name (found told there is) e =
       let own : told.0 ≡ id_of names name = eqb-true told.0 (id_of names name) e in
@@ -35,7 +36,7 @@ module _ (names : Dictionary) (rises : rising names ≡ true) (name : List ℕ) 
   same_name (missing none_has) e = never (sym e)
 
   -- It is higher: neither it nor a later one is of this name.
-  other_names : {first : List ℕ} {looked : Looked} → Tells names first looked → reaches_id looked (id_of names name) ≡ true → is_id looked (id_of names name) ≡ false
+  other_names : {first : List ℕ} {looked : Option InputId} → Tells names first looked → reaches_id looked (id_of names name) ≡ true → is_id looked (id_of names name) ≡ false
       → (more : List (List ℕ)) → rising (first ∷ more) ≡ true → among name (first ∷ more) ≡ false
   unfolding is_id reaches_id
   other_names (missing none_has) high apart more rise = never (sym high)

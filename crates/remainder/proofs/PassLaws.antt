@@ -1,8 +1,9 @@
 -- Fields passed over: one that has no id, or a lower one, names nothing that has an id of so much at least.
+use Rattle.std.specs.Prelude.{Option}
 use mathlib.Core.Bool.{Bool, true, false}
 use mathlib.Core.List.{List, []}
 use mathlib.Core.Path.{◌≡◌, refl, sym, ap, subst, ◌∙◌}
-use Prim.Native.Nat.{ℕ, ◌-◌, ◌/◌, ◌≤◌, ◌<◌}
+use Prim.Native.Nat.{ℕ, ◌/◌, ◌≤◌, ◌<◌}
 use native.Mathlib.Omega.{arith}
 use borrow.Author.Tests.{leb-false}
 use lib.ListN.{length, get_or}
@@ -10,7 +11,6 @@ use Rattle.dictionary.specs.declared.ids.InputId.{InputId}
 use Rattle.fields.proofs.TellingLaws.{field_told_lem, field_in_table}
 use Rattle.fields.specs.Telling.{entry_place, looked_at, FieldsTold}
 use Rattle.lookup.specs.Looking.{Tells, found, missing}
-use Rattle.lookup.specs.declared.Looked.{Looked}
 use Rattle.names.proofs.IdLaws.{id_place}
 use Rattle.names.proofs.SameLaws.{same_is}
 use Rattle.paper.proofs.WordLaws.{never}
@@ -27,12 +27,12 @@ pub told_id : (names : Dictionary) (name : List ℕ) → rising names ≡ true �
 told_id names name rise id there is = ap (id_of names) (sym is) ∙ id_place names id.0 rise there
 
 -- A field whose id does not reach another's is not of the same name.
-other_name : {names : Dictionary} {first : List ℕ} {looked : Looked} → Tells names first looked → rising names ≡ true
+other_name : {names : Dictionary} {first : List ℕ} {looked : Option InputId} → Tells names first looked → rising names ≡ true
     → (id : ℕ) → reaches_id looked id ≡ false → (name : List ℕ) → among name names ≡ true → id ≤ id_of names name → same first name ≡ false
 unfolding reaches_id
 other_name {names} {first} tells rise id low name in_names high = go (same first name) refl
   where
-    apart : {looked : Looked} → Tells names first looked → reaches_id looked id ≡ false → first ≡ name → ⊥
+    apart : {looked : Option InputId} → Tells names first looked → reaches_id looked id ≡ false → first ≡ name → ⊥
     apart (found told there is) low e =
         let own = told_id names name rise told there (is ∙ e) in
         let below = leb-false id told.0 low in

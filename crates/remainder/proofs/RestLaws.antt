@@ -1,5 +1,6 @@
 -- What is left over, put from its end: its members, the head of an object in front of them, the head of a frame in front of that;
 -- and where one of these finds no room, there is none for all of it.
+use Rattle.std.specs.Prelude.{Some, None, Option}
 use mathlib.Core.Bool.{true}
 use mathlib.Core.List.{List, [], map}
 use mathlib.Core.Path.{◌≡◌, refl, sym, ap, ◌∙◌}
@@ -7,7 +8,7 @@ use Prim.Native.Nat.{ℕ, ◌+◌, ◌-◌, ◌*◌, ◌≤◌, ◌<◌}
 use native.Mathlib.Omega.{arith}
 use lib.ListN.{length, length-map}
 use Rattle.containers.proofs.WalkLaws.{below_more}
-use Rattle.dictionary.proofs.NumbersRunLaws.{run_length}
+use Rattle.runs.proofs.NumbersRunLaws.{run_length}
 use Rattle.enclosing.proofs.FrameLaws.{frame_split, frame_length}
 use Rattle.enclosing.specs.Frames.{frame_head}
 use Rattle.forms.proofs.BackLaws.{ids_length, ids_below_lem}
@@ -25,8 +26,6 @@ use Rattle.paper.specs.Shredding.{unnamed}
 use Rattle.paper.specs.Words.{numbers, all_below, joined}
 use Rattle.putting.proofs.PutLaws.{put_join, told_here, told_full, told_room, told_length, ends_lie, put_object, object_holds}
 use Rattle.putting.specs.Put.{Room, PutAs, put, full}
-use Rattle.putting.specs.declared.Put.TheVariants.{At, Full}
-use Rattle.putting.specs.declared.Put.{Put}
 use Rattle.remainder.proofs.FilledLaws.{members_filled, ranks_own}
 use Rattle.remainder.proofs.UnnamedLaws.{unnamed_filled, unnamed_there}
 use Rattle.remainder.specs.Left.{NotedThere, noted_parts, LeftNoted, AllLeft}
@@ -88,18 +87,29 @@ module _ {ranks schema table : List ℕ} {from to : ℕ} {s : List ℕ} {m : Mem
   ids_low : all_below (length names) left_ids ≡ true
   ids_low = ids_below_lem names left (unnamed_there names (column_names ready.columns) ready.fs ready.there)
 
-  own_ranks : ranks_at ranks (numbers 2 count ids) ≡ left_ids
-  own_ranks = rw noted.ids_are (ranks_own ranks (length names) ready.ground.own left_ids ids_low)
-
   pub rest_noted : NotedThere s m notes count
   rest_noted = noted.noted
 
-  pub rest_ids : (2 * count ≤ length ids) × (all_below (length ranks) (numbers 2 count ids) ≡ true)
-  rest_ids = (noted.ids_room, rw noted.ids_are (below_more (length names) (length ranks) left_ids ready.ground.ranked ids_low))
+  -- The ids are there, in two bytes each.
+  pub rest_ids : (count * 2 ≤ length ids) × (1 ≤ 2) × (2 ≤ 4)
+  rest_ids = let room = noted.ids_room in (omega arith, omega arith, omega arith)
+
+  module _ {given : List ℕ} (is : given ≡ numbers 2 count ids) where
+    given_are : given ≡ left_ids
+    given_are = is ∙ noted.ids_are
+
+    given_many : length given ≡ count
+    given_many = ap length given_are ∙ ids_many
+
+    own_ranks : ranks_at ranks given ≡ left_ids
+    own_ranks = rw given_are (ranks_own ranks (length names) ready.ground.own left_ids ids_low)
+
+    pub rest_ranked : all_below (length ranks) given ≡ true
+    rest_ranked = rw given_are (below_more (length names) (length ranks) left_ids ready.ground.ranked ids_low)
 
   -- ---- nothing is left
 
-  pub rest_none : count ≡ 0 → (out : List ℕ) (end : ℕ) → PutAs (rest_bytes names left) out out 0 end (At end)
+  pub rest_none : count ≡ 0 → (out : List ℕ) (end : ℕ) → PutAs (rest_bytes names left) out out 0 end (Some end)
   rest_none e out end = rw (none_left names left (names_many ∙ e)) (put end (omega arith) (nothing_ends out end))
 
   -- ---- something is
@@ -114,65 +124,69 @@ module _ {ranks schema table : List ℕ} {from to : ℕ} {s : List ℕ} {m : Mem
         let most = (noted.noted.there 0 (omega arith)).few in
         omega arith
 
-    too_long : {after : List ℕ} → end < length (object_bytes left_ids parts) → PutAs (rest_bytes names left) out after 0 end Full
+    too_long : {after : List ℕ} → end < length (object_bytes left_ids parts) → PutAs (rest_bytes names left) out after 0 end None
     too_long short =
         let size = frame_length 0x41 (object_bytes left_ids parts) in
         rw rest_is (full (omega arith))
 
     -- The members.
-    module _ {out₁ : List ℕ} {r₁ : Put} (copied : PutAs (joined (noted_parts s m notes count)) out out₁ 0 end r₁) where
-      pub rest_full : r₁ ≡ Full → PutAs (rest_bytes names left) out out₁ 0 end Full
+    module _ {out₁ : List ℕ} {r₁ : Option ℕ} (copied : PutAs (joined (noted_parts s m notes count)) out out₁ 0 end r₁) where
+      pub rest_full : r₁ ≡ None → PutAs (rest_bytes names left) out out₁ 0 end None
       rest_full e =
           let short = told_full copied e in
           let hold = object_holds left_ids parts in
           let same : length (joined (noted_parts s m notes count)) ≡ length (joined parts) = ap (λ (l : List (List ℕ)). length (joined l)) noted.parts_are in
           too_long (omega arith)
 
-      module _ {start : ℕ} (here : r₁ ≡ At start) where
+      module _ {start : ℕ} (here : r₁ ≡ Some start) where
         ends : EndsAt (joined parts) out out₁ end start
         ends = rw noted.parts_are at (told_here copied here).1
 
         lies : Lies out₁ start end parts
         lies = ends_lie parts parts_filled room.within ends
 
-        -- What the writer of an object's head asks.
-        pub rest_members : Room out₁ 0 start × Lying out₁ start end count × (count ≤ most_walked) × (end ≤ length out₁)
-        rest_members = (
-          told_room copied room here,
-          record { parts = parts; lie = lies; count_is = parts_many },
-          few,
-          rw (told_length copied room.within here) room.within,
-        )
+        module _ {given : List ℕ} (is : given ≡ numbers 2 count ids) where
+          one_each : length parts ≡ length given
+          one_each = parts_many ∙ sym (given_many is)
 
-        -- The head of an object.
-        module _ {out₂ : List ℕ} {r₂ : Put}
-            (headed : (those : List (List ℕ)) → Lies out₁ start end those → length those ≡ count
-            → PutAs (object_head (ranks_at ranks (numbers 2 count ids)) those) out₁ out₂ 0 start r₂) where
-          body : PutAs (object_bytes left_ids parts) out out₂ 0 end r₂
-          body =
-              let head = headed parts lies parts_many in
-              put_object parts room.within ends left_ids (rw own_ranks at head)
+          -- What the writer of an object's head asks.
+          pub rest_members : Room out₁ 0 start × Lying out₁ start end (length given) × (length given ≤ most_walked) × (end ≤ length out₁)
+          rest_members = (
+            told_room copied room here,
+            record { parts = parts; lie = lies; count_is = one_each },
+            rw (given_many is) few,
+            rw (told_length copied room.within here) room.within,
+          )
 
-          pub rest_full_head : r₂ ≡ Full → PutAs (rest_bytes names left) out out₂ 0 end Full
-          rest_full_head e = let short = told_full body e in too_long (omega arith)
+          -- The head of an object.
+          module _ {out₂ : List ℕ} {r₂ : Option ℕ}
+              (headed : (those : List (List ℕ)) → Lies out₁ start end those → length those ≡ length given
+              → PutAs (object_head (ranks_at ranks given) those) out₁ out₂ 0 start r₂) where
+            body : PutAs (object_bytes left_ids parts) out out₂ 0 end r₂
+            body =
+                let head = headed parts lies one_each in
+                put_object parts room.within ends left_ids (rw (own_ranks is) at head)
 
-          module _ {first : ℕ} (there : r₂ ≡ At first) where
-            body_size : first + length (object_bytes left_ids parts) ≡ end
-            body_size = (told_here body there).1.size
+            pub rest_full_head : r₂ ≡ None → PutAs (rest_bytes names left) out out₂ 0 end None
+            rest_full_head e = let short = told_full body e in too_long (omega arith)
 
-            -- What the writer of the frame's head asks.
-            pub rest_asks : length out ≤ most_row → Room out₂ 0 first × (first ≤ end) × (end ≤ length out₂) × (length out₂ ≤ most_row) × (0x41 < 256)
-            rest_asks few =
-                let size = body_size in
-                let same = told_length body room.within there in
-                let within = room.within in
-                (told_room body room there, omega arith, omega arith, omega arith, omega arith)
+            module _ {first : ℕ} (there : r₂ ≡ Some first) where
+              body_size : first + length (object_bytes left_ids parts) ≡ end
+              body_size = (told_here body there).1.size
 
-            -- The head of a frame.
-            pub rest_put : {out₃ : List ℕ} {r₃ : Put} → PutAs (frame_head 0x41 (end - first)) out₂ out₃ 0 first r₃ → PutAs (rest_bytes names left) out out₃ 0 end r₃
-            rest_put {out₃} {r₃} framed =
-                let value : List ℕ = object_bytes left_ids parts in
-                let place = body_size in
-                let size : end - first ≡ length value = omega arith in
-                let head : PutAs (frame_head 0x41 (length value)) out₂ out₃ 0 first r₃ = rw size at framed in
-                rw (rest_is, frame_split 0x41 value) (put_join room.within (told_here body there).1 head)
+              -- What the writer of the frame's head asks.
+              pub rest_asks : length out ≤ most_row → Room out₂ 0 first × (first ≤ end) × (end ≤ length out₂) × (length out₂ ≤ most_row) × (0x41 < 256)
+              rest_asks few =
+                  let size = body_size in
+                  let same = told_length body room.within there in
+                  let within = room.within in
+                  (told_room body room there, omega arith, omega arith, omega arith, omega arith)
+
+              -- The head of a frame.
+              pub rest_put : {out₃ : List ℕ} {r₃ : Option ℕ} → PutAs (frame_head 0x41 (end - first)) out₂ out₃ 0 first r₃ → PutAs (rest_bytes names left) out out₃ 0 end r₃
+              rest_put {out₃} {r₃} framed =
+                  let value : List ℕ = object_bytes left_ids parts in
+                  let place = body_size in
+                  let size : end - first ≡ length value = omega arith in
+                  let head : PutAs (frame_head 0x41 (length value)) out₂ out₃ 0 first r₃ = rw size at framed in
+                  rw (rest_is, frame_split 0x41 value) (put_join room.within (told_here body there).1 head)

@@ -1,8 +1,7 @@
 -- The fields of a node side by side with ids that rise: fields passed over on the way to an id name nothing from there on.
-use Rattle.std.specs.Prelude.{Bool, true, false, ◌&&◌, List, ◌≡◌, ℕ, ◌≤◌, ◌<◌, leb, ltb, eqb}
+use Rattle.dictionary.specs.declared.ids.InputId.{InputId}
+use Rattle.std.specs.Prelude.{Bool, true, false, ◌&&◌, List, ◌≡◌, ℕ, ◌≤◌, ◌<◌, leb, ltb, eqb, Option, Some, None}
 use Rattle.fields.specs.Telling.{looked_at, FieldsTold}
-use Rattle.lookup.specs.declared.Looked.{Looked}
-use Rattle.lookup.specs.declared.Looked.TheVariants.{At, Nowhere}
 use Rattle.paper.specs.Metadata.{Dictionary, rising}
 use Rattle.paper.specs.Normal.{id_of}
 use Rattle.paper.specs.Schemas.{SchemaFields, column_names}
@@ -10,13 +9,13 @@ use Rattle.paper.specs.Words.{among}
 use Rattle.schemas.specs.Positions.{FieldsStand}
 
 -- By what a table tells of a field: its id is so much at least, and it is this one.
-unfoldable pub reaches_id : Looked → (id : ℕ) → Bool
-reaches_id (At found) id = leb id found.0
-reaches_id Nowhere id = false
+unfoldable pub reaches_id : Option InputId → (id : ℕ) → Bool
+reaches_id (Some found) id = leb id found.0
+reaches_id None id = false
 
-unfoldable pub is_id : Looked → (id : ℕ) → Bool
-is_id (At found) id = eqb found.0 id
-is_id Nowhere id = false
+unfoldable pub is_id : Option InputId → (id : ℕ) → Bool
+is_id (Some found) id = eqb found.0 id
+is_id None id = false
 
 -- The field at a position, if there is one, has an id.
 unfoldable pub names_id : (table : List ℕ) → (place to id : ℕ) → Bool

@@ -7,7 +7,6 @@ ghost use Rattle.remainder.specs.Left.{NotedThere, noted_parts, SomeReady, AllLe
 
 use crate::passing::{names_id, pass};
 use members::{Members, id_at, part_at};
-use putting::Put;
 
 // Notes which members of an object the fields between two positions do not name, and their ids. Answers how many there are.
 pub fn note_left(
@@ -25,8 +24,7 @@ pub fn note_left(
 {
     let mut n = 0;
     let mut place = from;
-    let mut k = 0;
-    while k < members.count {
+    for k in 0..members.count {
         let id = id_at(s, members, k);
         place = pass(schema, table, place, to, id.0);
         if !names_id(table, place, to, id.0) {
@@ -34,7 +32,6 @@ pub fn note_left(
             numbers::write(ids, 2 * n, 2, id.0);
             n += 1;
         }
-        k += 1;
     }
     n
 }
@@ -47,19 +44,17 @@ pub fn copy_noted(
     count: usize,
     out: &mut [u8],
     end: usize,
-) -> Put
+) -> Option<usize>
     requires { Room out.old 0 end × NotedThere s.now members notes.now count }
     ensures { PutAs (joined (noted_parts s.now members notes.now count)) out.old out.new 0 end result }
 {
     let mut start = end;
-    let mut i = count;
-    while 0 < i {
-        i -= 1;
+    for i in (0..count).rev() {
         let part = part_at(s, members, noting::spot(notes, i));
         if start < part.len() {
-            return Put::Full;
+            return None;
         }
         start = writing::copied(part, out, start);
     }
-    Put::At(start)
+    Some(start)
 }

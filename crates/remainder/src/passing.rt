@@ -4,18 +4,13 @@ ghost use Rattle.fields.specs.Telling.{entry_place, looked_at};
 ghost use Rattle.remainder.specs.Passing.{reaches_id, names_id, Fielded, AllPassed};
 
 use fields::field_id;
-use lookup::Looked;
 
 // The field at a position has an id of so much at least.
 fn reaches(table: &[u16], place: usize, id: usize) -> bool
     requires { entry_place place < length table.now }
     ensures { result ≡ reaches_id (looked_at table.now place) id }
 {
-    let looked = field_id(table, place);
-    match looked {
-        Looked::At(found) => id <= found.0,
-        Looked::Nowhere => false,
-    }
+    field_id(table, place).is_some_and(|found| id <= found.0)
 }
 
 // The first field, from a position on, that has an id of so much at least; or where the fields end.
@@ -24,10 +19,8 @@ pub fn pass(schema: &[u8], table: &[u16], from: usize, to: usize, id: usize) -> 
     ensures { AllPassed schema.now table.now from to id result }
 {
     let mut place = from;
-    while place < to {
-        if reaches(table, place, id) {
-            return place;
-        }
+    // Frames are of many lengths, so their places are no range.
+    while place < to && !reaches(table, place, id) {
         place = schemas::frame_end(schema, place);
     }
     place
@@ -38,12 +31,5 @@ pub fn names_id(table: &[u16], place: usize, to: usize, id: usize) -> bool
     requires { place < to → entry_place place < length table.now }
     ensures { result ≡ names_id table.now place to id }
 {
-    if to <= place {
-        return false;
-    }
-    let looked = field_id(table, place);
-    match looked {
-        Looked::At(found) => found.0 == id,
-        Looked::Nowhere => false,
-    }
+    place < to && field_id(table, place).is_some_and(|found| found.0 == id)
 }

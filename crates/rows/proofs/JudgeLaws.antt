@@ -1,128 +1,126 @@
 -- A row opened and judged: each answer by the tests that led there.
+use Rattle.paper.specs.declared.Refusal.{Refusal}
+use Rattle.paper.specs.declared.Refusal.TheVariants.{BrokenRule, BadRow}
+use Rattle.std.specs.Borrow.{Bor}
+use Rattle.std.specs.Prelude.{Some, None, Option, Ok, Err}
+use Rattle.std.specs.Option.{ok_or}
+use Rattle.std.proofs.Common.{inl, inr}
 use mathlib.Core.Bool.{Bool, true, false, not}
 use mathlib.Core.List.{List}
-use mathlib.Core.Option.{some}
-use mathlib.Core.Path.{◌≡◌, sym, ◌∙◌}
-use Prim.Native.Nat.{ℕ, ◌+◌, ◌-◌, ◌/◌, ◌≤◌, ◌<◌}
+use mathlib.Core.Path.{◌≡◌, refl, sym, ap, ◌∙◌}
+use Prim.Native.Nat.{ℕ, ◌+◌, ◌-◌, ◌*◌, ◌/◌, ◌≤◌, ◌<◌}
+use native.Mathlib.Nat.{mul-le-mul, mul-one}
 use native.Mathlib.Omega.{arith}
 use borrow.Author.Tests.{not-true}
 use lib.ListN.{length, length-take, length-drop}
-use Rattle.dictionary.specs.Judging.{Opened, judged_of}
-use Rattle.dictionary.specs.declared.Judged.TheVariants.{Good, Broken as BrokenMetadata}
-use Rattle.dictionary.specs.declared.Judged.{Judged}
-use Rattle.dictionary.specs.declared.Names.{Names}
+use Rattle.dictionary.specs.Lent.{LentNames, Lent, lent_of}
 use Rattle.fields.specs.Telling.{names_fields}
 use Rattle.fields.proofs.NamesLaws.{none_told}
-use Rattle.frames.specs.declared.Frame.TheVariants.{Ends, Cut as CutFrame}
-use Rattle.frames.specs.declared.Frame.{Frame}
-use Rattle.heads.specs.Packing.{Readings}
 use Rattle.paper.specs.Bounds.{most_names}
 use Rattle.paper.specs.Limits.{most_metadata, most_row, most_levels}
-use Rattle.paper.specs.Metadata.{names_in}
+use Rattle.paper.specs.Metadata.{Dictionary, flag_set, offset_size, dictionary_of}
 use Rattle.paper.specs.Schemas.{Schema, schema_of}
-use Rattle.paper.specs.Words.{at, part, is_there}
-use Rattle.dictionary.proofs.DictionaryLaws.{opened, opened_names, broken}
-use Rattle.names.proofs.FewLaws.{names_few}
+use Rattle.paper.specs.Words.{at, part, and_then, is_there}
+use Rattle.dictionary.proofs.LentLaws.{lent_dictionary, lent_size}
+use Rattle.names.proofs.NeverLongerLaws.{read_length}
 use Rattle.paper.proofs.WordLaws.{never, there_some}
 use Rattle.schemas.specs.Positions.{Stands}
 use Rattle.schemas.proofs.StandingLaws.{schema_stands}
 use Rattle.places.proofs.HalfLaws.{Halves, halved, unhalved, row_other_tag, row_long_metadata, row_bad_metadata, row_other_place, row_place}
-use Rattle.places.specs.Halves.{halves_of}
-use Rattle.rows.specs.Judging.{metadata_of, outermost_of, InOrder, OpenedAs, opened as opened_row, unopened, RowReady, TableTells, Walked, JudgedAs}
+use Rattle.places.specs.Halves.{middle_of}
+use Rattle.rows.specs.Judging.{InOrder, OpenedAs, opened as opened_row, unopened, PartsReady, TableTells, Walked, JudgedAs}
 use Rattle.places.specs.Verdicts.{place_verdict, row_verdict}
 use Rattle.places.specs.Walking.{NodeReady}
-use Rattle.rows.specs.declared.judging.Opening.TheVariants.{At, Cut}
-use Rattle.rows.specs.declared.judging.Opening.{Opening}
-use Rattle.rows.specs.declared.judging.RowJudged.TheVariants as judged
 use Rattle.rows.specs.declared.judging.RowParts.{RowParts}
 use Rattle.places.specs.declared.verdicts.Verdict.TheVariants.{Lawful, Broken, Unparsed}
 use Rattle.places.specs.declared.verdicts.Verdict.{Verdict}
 
 -- ---- a row opened
 
-module _ (row : List ℕ) (r : Frame) (told : r ≡ halves_of row) where
-  pub open_unhalved : r ≡ CutFrame → OpenedAs row Cut
+not_lent : (m : List ℕ) → lent_of m ≡ None → dictionary_of m ≡ None
+unfolding lent_of and_then
+not_lent m e = go (dictionary_of m) (λ names. record { names = names; sorted = flag_set (at m 0); size = length m }) e
+  where
+    go : (x : Option Dictionary) (seen : Dictionary → LentNames) → and_then x (λ names. Some (seen names)) ≡ None → x ≡ None
+    go None seen f = refl
+    go (Some names) seen f = cc
+
+-- Each name takes an offset, so a dictionary has no more names than its metadata has bytes.
+few_names : {d : LentNames} → Lent d → d.size ≤ most_metadata → length d.names ≤ most_names
+unfolding offset_size
+few_names {d} lent short =
+    let all = read_length lent.metadata d.names (lent_dictionary lent) in
+    let one : (length d.names + 1) * 1 ≤ (length d.names + 1) * offset_size (at lent.metadata 0) = mul-le-mul (omega arith) (omega arith) in
+    let same = mul-one (length d.names + 1) in
+    let size = lent_size lent in
+    omega arith
+
+module _ (row : List ℕ) (r : Option ℕ) (told : r ≡ middle_of row) where
+  pub open_unhalved : r ≡ None → OpenedAs row None
   open_unhalved e = unopened (unhalved row r told e)
 
-  module _ {middle : ℕ} (e : r ≡ Ends middle) where
+  module _ {middle : ℕ} (e : r ≡ Some middle) where
     h : Halves row middle
     h = halved row r told middle e
 
     pub halves_fit : (3 ≤ middle) × (middle + 3 ≤ length row)
     halves_fit = (h.first_long, h.second_long)
 
-    pub open_other_tag : (at row 0 ≡ 0x40 → ⊥) → OpenedAs row Cut
+    pub open_other_tag : (at row 0 ≡ 0x40 → ⊥) → OpenedAs row None
     open_other_tag other = unopened (λ schema. row_other_tag schema row middle h other)
 
     module _ (tag : at row 0 ≡ 0x40) where
-      pub open_long : most_metadata < middle - 3 → OpenedAs row Cut
+      pub open_long : most_metadata < middle - 3 → OpenedAs row None
       open_long long = unopened (λ schema. row_long_metadata schema row middle h tag long)
 
-      module _ (short : middle - 3 ≤ most_metadata) (j : Judged) (is : j ≡ judged_of (part row 3 middle)) where
-        pub open_bad : j ≡ BrokenMetadata → OpenedAs row Cut
-        open_bad f = unopened (λ schema. row_bad_metadata schema row middle h tag short (broken (part row 3 middle) (sym is ∙ f)))
+      module _ (short : middle - 3 ≤ most_metadata) (j : Option LentNames) (is : j ≡ lent_of (part row 3 middle)) where
+        pub open_bad : j ≡ None → OpenedAs row None
+        open_bad f = unopened (λ schema. row_bad_metadata schema row middle h tag short (not_lent (part row 3 middle) (sym is ∙ f)))
 
-        module _ {names : Names} (f : j ≡ Good names) where
-          metadata_opened : Opened (part row 3 middle) names
-          metadata_opened = opened (sym is ∙ f)
+        module _ {d : LentNames} (f : j ≡ Some d) where
+          abbrev lent : Lent d
+          lent = record { metadata = part row 3 middle; opens = sym is ∙ f }
 
-          pub open_other_place : (at row middle ≡ 0x50 → ⊥) → OpenedAs row Cut
-          open_other_place other =
-              unopened (λ schema. row_other_place schema row middle h tag short (names_in (part row 3 middle)) (opened_names metadata_opened) other)
+          pub open_other_place : (at row middle ≡ 0x50 → ⊥) → OpenedAs row None
+          open_other_place other = unopened (λ schema. row_other_place schema row middle h tag short d.names (lent_dictionary lent) other)
 
-          pub open_at : at row middle ≡ 0x50 → OpenedAs row (At (record { middle = middle; names = names }))
-          open_at place =
+          pub open_at : at row middle ≡ 0x50 → (outer : Bor (List ℕ)) → outer.now ≡ part row (middle + 3) (length row)
+              → OpenedAs row (Some (record { dictionary = d; outermost = outer }))
+          open_at place outer holds =
               let size : length (part row 3 middle) ≡ middle - 3 = let fits = h.first_long in let behind = h.second_long in rw (length-take, length-drop) (omega arith) in
-              opened_row (record { middle = middle; names = names })
+              let long = lent_size lent in
+              opened_row (record { dictionary = d; outermost = outer })
               (record {
+                middle = middle;
                 first_long = h.first_long;
                 second_long = h.second_long;
                 halved = sym told ∙ e;
-                short = rw size short;
-                opened = metadata_opened;
-                comes_to = λ schema. row_place schema row middle h tag short (names_in (part row 3 middle)) (opened_names metadata_opened) place;
+                opens = sym is ∙ f;
+                short = omega arith;
+                holds = holds;
+                comes_to = λ schema. rw holds (row_place schema row middle h tag short d.names (lent_dictionary lent) place);
               })
 
 -- ---- a row walked
 
-module _ {schema row : List ℕ} {parts : RowParts} {table : List ℕ} (ready : RowReady schema row parts table) where
-  pub ready_few : parts.names.count ≤ most_names
-  ready_few = names_few ready.in_order.opened ready.in_order.short
-
-  pub ready_opened : Opened (metadata_of row parts) parts.names
-  ready_opened = ready.in_order.opened
-
-  pub ready_halves : (3 ≤ parts.middle) × (parts.middle + 3 ≤ length row)
-  ready_halves = (ready.in_order.first_long, ready.in_order.second_long)
-
-  pub ready_node : {readings : List ℕ} → Readings readings → TableTells schema row parts table → NodeReady most_levels readings (metadata_of row parts) parts.names schema table 0
-  ready_node readings told =
+module _ {schema : List ℕ} {parts : RowParts} {table : List ℕ} (ready : PartsReady schema parts table) where
+  pub ready_node : TableTells schema parts table → NodeReady most_levels parts.dictionary.names schema table 0
+  ready_node told =
       let got = there_some (schema_of schema) ready.good in
-      record {
-        opened = ready_opened;
-        readings_are = readings;
-        tabled = ready.tabled;
-        node = got.0;
-        stands = (schema_stands schema got.0 got.1).0;
-        told = told got.0 got.1;
-      }
+      record { tabled = ready.tabled; node = got.0; stands = (schema_stands schema got.0 got.1).0; told = told got.0 got.1 }
 
   -- A table of the same length does as well.
-  pub ready_after : (after : List ℕ) → length after ≡ length table → RowReady schema row parts after
-  ready_after after same = record { in_order = ready.in_order; good = ready.good; tabled = rw same ready.tabled; short = ready.short }
+  pub ready_after : (after : List ℕ) → length after ≡ length table → PartsReady schema parts after
+  ready_after after same = record { lent = ready.lent; few = ready.few; small = ready.small; good = ready.good; tabled = rw same ready.tabled }
 
   -- A schema that names no field.
-  pub nothing_told : (r : Bool) → ((node : Schema) → schema_of schema ≡ some node → r ≡ names_fields node) → not r ≡ true → TableTells schema row parts table
+  pub nothing_told : (r : Bool) → ((node : Schema) → schema_of schema ≡ Some node → r ≡ names_fields node) → not r ≡ true → TableTells schema parts table
   nothing_told r told none_named node is = none_told _ schema table node 0 (sym (told node is) ∙ not-true r none_named)
 
-  pub walked : TableTells schema row parts table
-      → (v : Verdict) → ((under : Schema) → Stands most_levels schema 0 under → v ≡ place_verdict under most_levels (names_in (metadata_of row parts)) (outermost_of row parts))
-      → Walked schema row parts table v
-  walked told v judged-place =
-      record {
-        verdict_is = λ node is. judged-place node (schema_stands schema node is).0 ∙ ready.in_order.comes_to node;
-        told = told;
-      }
+  pub walked : TableTells schema parts table
+      → (v : Verdict) → ((under : Schema) → Stands most_levels schema 0 under → v ≡ place_verdict under most_levels parts.dictionary.names parts.outermost.now)
+      → Walked schema parts table v
+  walked told v judged-place = record { verdict_is = λ node is. judged-place node (schema_stands schema node is).0; told = told }
 
 -- Where the flag is set no index is needed.
 pub sorted_none : {n m : ℕ} (flag : Bool) → flag ≡ true → flag ≡ false → n ≤ m
@@ -130,44 +128,63 @@ sorted_none flag set clear = never (sym set ∙ clear)
 
 -- ---- a row judged
 
-row_in : {row : List ℕ} {o : Opening} → OpenedAs row o → (parts : RowParts) → o ≡ At parts → InOrder row parts
-row_in (opened_row parts in_order) other e = let same : parts ≡ other = cc in rw (← same) in_order
-row_in (unopened never-parses) other e = absurd (let z : ◌≡◌ {A = ℕ} 0 1 = cc in omega arith)
+row_in : {row : List ℕ} {o : Option RowParts} → OpenedAs row o → {parts : RowParts} → o ≡ Some parts → InOrder row parts
+row_in (opened_row one in_order) {parts} e = let same : one ≡ parts = cc in rw (← same) in_order
+row_in (unopened never-parses) e = cc
 
-row_out : {row : List ℕ} {o : Opening} → OpenedAs row o → o ≡ Cut → (schema : Schema) → Unparsed ≡ row_verdict schema row
-row_out (opened_row parts in_order) e = absurd (let z : ◌≡◌ {A = ℕ} 0 1 = cc in omega arith)
+row_out : {row : List ℕ} {o : Option RowParts} → OpenedAs row o → o ≡ None → (schema : Schema) → Unparsed ≡ row_verdict schema row
+row_out (opened_row parts in_order) e = cc
 row_out (unopened never-parses) e = never-parses
 
-module _ {schema row : List ℕ} {o : Opening} (told : OpenedAs row o) where
-  pub judged_cut : o ≡ Cut → (table : List ℕ) → JudgedAs schema row table judged.Unparsed
+-- What comes of it where 6 is said of a row that is not opened.
+pub was_opened : (o : Option RowParts) {parts : RowParts} → Ok parts ≡ ok_or o BadRow → o ≡ Some parts
+was_opened None e = cc
+was_opened (Some parts) e = cc
+
+was_cut : (o : Option RowParts) {r : Refusal} → Err r ≡ ok_or o BadRow → (o ≡ None) × (r ≡ BadRow)
+was_cut None e = (refl, cc)
+was_cut (Some parts) e = cc
+
+module _ {schema row : List ℕ} {o : Option RowParts} (told : OpenedAs row o) where
+  pub judged_cut : {r : Refusal} → Err r ≡ ok_or o BadRow → (table : List ℕ) → JudgedAs schema row table (Err r)
   judged_cut e table =
-      record {
-        verdict_is = λ node is. row_out told e node;
-        handed = λ parts f. absurd (let z : ◌≡◌ {A = ℕ} 0 1 = cc in omega arith);
-      }
+      let cut = was_cut o e in
+      rw cut.1 (record {
+        verdict_is = λ node is. row_out told cut.0 node;
+        handed = λ parts f. cc;
+        refused = λ r f. inr (cc);
+      })
 
-  module _ {parts : RowParts} (e : o ≡ At parts) where
-    pub judged_ready : {table : List ℕ} → is_there (schema_of schema) ≡ true → length schema / 9 ≤ length table → length row ≤ most_row → RowReady schema row parts table
-    judged_ready good tabled short = record { in_order = row_in told parts e; good = good; tabled = tabled; short = short }
+  module _ {parts : RowParts} (e : o ≡ Some parts) where
+    pub judged_ready : {table : List ℕ} → is_there (schema_of schema) ≡ true → length schema / 9 ≤ length table → length row ≤ most_row → PartsReady schema parts table
+    judged_ready good tabled short =
+        let here = row_in told e in
+        let lent : Lent parts.dictionary = record { metadata = part row 3 here.middle; opens = here.opens } in
+        let size = ap length here.holds in
+        let within : length (part row (here.middle + 3) (length row)) ≤ length row = simp (length-take, length-drop) (omega arith) in
+        record { lent = lent; few = few_names lent here.short; small = omega arith; good = good; tabled = tabled }
 
-    module _ {after : List ℕ} {v : Verdict} (walk : Walked schema row parts after v) where
-      pub judged_lawful : v ≡ Lawful → JudgedAs schema row after (judged.Lawful parts)
+    module _ {after : List ℕ} {v : Verdict} (walk : Walked schema parts after v) where
+      pub judged_lawful : v ≡ Lawful → JudgedAs schema row after (Ok parts)
       judged_lawful f =
           record {
-            verdict_is = λ node is. sym f ∙ walk.verdict_is node is;
-            handed = λ other g. let same : parts ≡ other = cc in rw (← same) (record { in_order = row_in told parts e; told = walk.told });
+            verdict_is = λ node is. sym f ∙ walk.verdict_is node is ∙ (row_in told e).comes_to node;
+            handed = λ other g. let same : parts ≡ other = cc in rw (← same) (record { in_order = row_in told e; told = walk.told });
+            refused = λ r g. cc;
           }
 
-      pub judged_broken : v ≡ Broken → JudgedAs schema row after judged.Broken
+      pub judged_broken : v ≡ Broken → JudgedAs schema row after (Err BrokenRule)
       judged_broken f =
           record {
-            verdict_is = λ node is. sym f ∙ walk.verdict_is node is;
-            handed = λ other g. absurd (let z : ◌≡◌ {A = ℕ} 0 1 = cc in omega arith);
+            verdict_is = λ node is. sym f ∙ walk.verdict_is node is ∙ (row_in told e).comes_to node;
+            handed = λ other g. cc;
+            refused = λ r g. inl (cc);
           }
 
-      pub judged_unparsed : v ≡ Unparsed → JudgedAs schema row after judged.Unparsed
+      pub judged_unparsed : v ≡ Unparsed → JudgedAs schema row after (Err BadRow)
       judged_unparsed f =
           record {
-            verdict_is = λ node is. sym f ∙ walk.verdict_is node is;
-            handed = λ other g. absurd (let z : ◌≡◌ {A = ℕ} 0 1 = cc in omega arith);
+            verdict_is = λ node is. sym f ∙ walk.verdict_is node is ∙ (row_in told e).comes_to node;
+            handed = λ other g. cc;
+            refused = λ r g. inr (cc);
           }

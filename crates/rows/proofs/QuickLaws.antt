@@ -1,12 +1,11 @@
 -- The quick look at a place: an empty one is lawful, and so is one good cell alone under a column, by its frame and its node's tag.
+use Rattle.std.specs.Prelude.{Some}
 use mathlib.Core.Bool.{Bool, true}
 use mathlib.Core.List.{List}
 use mathlib.Core.Path.{◌≡◌, refl, sym, ◌∙◌}
 use Prim.Native.Nat.{ℕ, ◌+◌, ◌-◌, ◌≤◌, ◌<◌}
 use native.Mathlib.Omega.{arith}
 use lib.ListN.{length}
-use Rattle.dictionary.specs.declared.Names.{Names}
-use Rattle.frames.specs.declared.Frame.TheVariants.{Ends}
 use Rattle.numbers.specs.Little.{number_at}
 use Rattle.paper.specs.Cells.{cell_meaning}
 use Rattle.paper.specs.Metadata.{Dictionary}
@@ -27,7 +26,7 @@ use Rattle.rows.specs.Quick.{NodeThere}
 
 -- ---- what the look asks and reads
 
-pub some_node : {levels : ℕ} {readings metadata : List ℕ} {names : Names} {s table : List ℕ} {place : ℕ} → NodeReady levels readings metadata names s table place → NodeThere s place
+pub some_node : {levels : ℕ} {names : Dictionary} {s table : List ℕ} {place : ℕ} → NodeReady levels names s table place → NodeThere s place
 some_node {levels} ready = record { levels = levels; node = ready.node; stands = ready.stands }
 
 -- A node of a column's tag has a column's code behind its frame's head.
@@ -37,7 +36,7 @@ module _ {s : List ℕ} {place : ℕ} (there : NodeThere s place) (tagged : at s
 
   pub code_good : column_code (at s (place + 3)) ≡ true
   code_good =
-      let here = column_here_lem there.stands (kind_column s place (omega arith) tagged) refl in rw here.2 at here.3.good
+      let here = column_here_lem there.stands (kind_column s place tagged) refl in rw here.2 at here.3.good
 
 -- ---- what it tells
 
@@ -51,11 +50,11 @@ empty_lawful s place body e levels names under stands = place_empty under levels
 -- One frame of something typed fills the body.
 typed_alone : (body : List ℕ) → at body 0 ≡ 0x42 → 3 ≤ length body → length body - 3 ≡ number_at body 1 2 → Typed ≡ parts_of body
 typed_alone body tagged long fills =
-    split_one body (omega arith) (Ends (0 + 3 + (length body - 3))) (ends_there body 0 (omega arith) (length body - 3) fills (omega arith))
-    (0 + 3 + (length body - 3)) refl (omega arith) Typed (only_typed (at body 0) (omega arith) tagged)
+    split_one body (omega arith) (Some (0 + 3 + (length body - 3))) (ends_there body 0 (omega arith) (length body - 3) fills (omega arith))
+    (0 + 3 + (length body - 3)) refl (omega arith) Typed (only_typed (at body 0) tagged)
 
 pub cell_lawful : (s : List ℕ) (place : ℕ) (body : List ℕ) → at body 0 ≡ 0x42 → 3 ≤ length body → length body - 3 ≡ number_at body 1 2 → at s place ≡ 0x10
     → (good : Bool) → good ≡ is_there (cell_meaning (record { code = at s (place + 3) }) (part body 3 (length body))) → good ≡ true → LawfulThere s place body
 cell_lawful s place body tagged long fills column good is-good e levels names under stands =
     place_typed under levels names body (told_by body (typed_alone body tagged long fills) refl)
-    ∙ sym (typed_cell (kind_column s place (omega arith) column) names (part body 3 (length body)) refl good is-good Lawful (rw e) under stands)
+    ∙ sym (typed_cell (kind_column s place column) names (part body 3 (length body)) refl good is-good Lawful (rw e) under stands)

@@ -1,23 +1,20 @@
 -- The walkers: what is typed by the kind of its node, and the two loops over inner places, each a verdict so far and what is
 -- left to judge.
+use Rattle.dictionary.specs.declared.ids.InputId.{InputId}
+use Rattle.std.specs.Prelude.{Option, None, Some}
 use mathlib.Core.Bool.{Bool, true, false, cond, not, ◌&&◌}
 use mathlib.Core.List.{List}
-use mathlib.Core.Option.{Option, none, some}
 use mathlib.Core.Path.{◌≡◌, refl, sym, ap, ◌∙◌}
 use Prim.Native.Nat.{ℕ, ◌+◌, ◌-◌, ◌/◌, ◌≤◌, ◌<◌}
 use native.Mathlib.Omega.{arith}
 use borrow.Author.Tests.{eqb-true, eqb-false, lt-ltb, le-ltb}
 use lib.Dec.{eqb, ltb}
 use lib.ListN.{length, drop}
-use Rattle.dictionary.specs.declared.Names.{Names}
 use Rattle.fields.specs.Telling.{entry_place, looked_at, FieldsTold}
-use Rattle.frames.specs.declared.Frame.TheVariants.{Ends, Cut}
-use Rattle.frames.specs.declared.Frame.{Frame}
 use Rattle.lookup.specs.Looking.{Tells, found, missing}
-use Rattle.lookup.specs.declared.Looked.{Looked}
 use Rattle.paper.specs.Cells.{cell_meaning}
 use Rattle.paper.specs.Meaning.{Scalar}
-use Rattle.paper.specs.Metadata.{Dictionary, names_in}
+use Rattle.paper.specs.Metadata.{Dictionary}
 use Rattle.paper.specs.Rows.{cell, no_body, cell_body}
 use Rattle.paper.specs.Rules.{cell_lawful}
 use Rattle.paper.specs.Schemas.{Column, Schema, SchemaFields, named, column_code}
@@ -35,16 +32,15 @@ use Rattle.schemas.proofs.KindLaws.{kind_there, leftover_here_lem, column_here_l
 use Rattle.schemas.proofs.StandingLaws.{some_level}
 use Rattle.places.proofs.StepLaws.{place_cut, place_ends, place_fits, elements_ended, elements_cut, elements_next, members_ended, members_more, members_few, members_cut, members_next}
 use Rattle.places.proofs.VerdictLaws.{typed_list, typed_fields, worse_unparsed, worse_lawful, worse_assoc}
-use Rattle.places.specs.Frames.{place_frame}
+use Rattle.places.specs.Frames.{place_end}
 use Rattle.places.specs.Verdicts.{verdict_of, typed_under, typed_lawful, typed_verdict, place_verdict, elements_verdict, members_verdict, worse, broken_if}
 use Rattle.places.specs.Walking.{NodeReady, FieldsReady, LeftReady, is_nowhere}
 use Rattle.places.specs.declared.verdicts.Verdict.TheVariants.{Lawful, Unparsed}
 use Rattle.places.specs.declared.verdicts.Verdict.{Verdict}
 
 -- What the rules of a leftover are judged by.
-pub left_ready_lem : {levels : ℕ} {readings metadata : List ℕ} {names : Names} {s table : List ℕ} {place : ℕ} → NodeReady levels readings metadata names s table place
-    → LeftReady levels readings metadata names s place
-left_ready_lem ready = record { opened = ready.opened; readings_are = ready.readings_are; node = ready.node; stands = ready.stands }
+pub left_ready_lem : {levels : ℕ} {names : Dictionary} {s table : List ℕ} {place : ℕ} → NodeReady levels names s table place → LeftReady levels s place
+left_ready_lem ready = record { node = ready.node; stands = ready.stands }
 
 -- ---- what is typed, by the kind of the node
 
@@ -62,9 +58,9 @@ module _ {levels : ℕ} {s : List ℕ} {place : ℕ} {k : Kind} (is : k ≡ kind
       is-v ∙ rw (told, same) (go here.0 (cell_meaning here.0 body))
       ∙ ap (λ (n : Schema). verdict_of (typed_under n levels names body) (typed_lawful n names)) (sym here.1)
     where
-      go : (said : Column) (x : Option Scalar) → cond (is_there x) Lawful Unparsed ≡ verdict_of (and_then x λ value. some (cell said value)) cell_lawful
-      go said none = unfold is_there in unfold verdict_of in unfold and_then in refl
-      go said (some value) = unfold is_there in unfold verdict_of in unfold and_then in unfold cell_lawful in refl
+      go : (said : Column) (x : Option Scalar) → cond (is_there x) Lawful Unparsed ≡ verdict_of (and_then x λ value. Some (cell said value)) cell_lawful
+      go said None = unfold is_there in unfold verdict_of in unfold and_then in refl
+      go said (Some value) = unfold is_there in unfold verdict_of in unfold and_then in unfold cell_lawful in refl
 
   pub typed_elements : k ≡ ListKind → (v : Verdict) → ((element : Schema) → Stands (levels - 1) s (place + 3) element → v ≡ elements_verdict element (levels - 1) names body)
       → (under : Schema) → Stands levels s place under → v ≡ typed_verdict under levels names body
@@ -80,7 +76,7 @@ module _ {levels : ℕ} {s : List ℕ} {place : ℕ} {k : Kind} (is : k ≡ kind
       told here.0 (rw ends here.2.inside) ∙ sym (typed_fields here.0 levels names body) ∙ ap (λ (n : Schema). typed_verdict n levels names body) (sym here.1)
 
 -- What the calls ask.
-module _ {levels : ℕ} {readings metadata : List ℕ} {names : Names} {s table : List ℕ} {place : ℕ} (ready : NodeReady levels readings metadata names s table place) where
+module _ {levels : ℕ} {names : Dictionary} {s table : List ℕ} {place : ℕ} (ready : NodeReady levels names s table place) where
   pub ready_kind : KindThere s place
   ready_kind = kind_there ready.stands
 
@@ -94,24 +90,20 @@ module _ {levels : ℕ} {readings metadata : List ℕ} {names : Names} {s table 
     pub ready_code : {code : ℕ} → k ≡ ColumnKind code → column_code code ≡ true
     ready_code e = let here = column_here_lem ready.stands is e in rw here.2 at here.3.good
 
-    pub ready_element : k ≡ ListKind → NodeReady (levels - 1) readings metadata names s table (place + 3)
+    pub ready_element : k ≡ ListKind → NodeReady (levels - 1) names s table (place + 3)
     ready_element e =
         let here = list_here_lem ready.stands is e in
         record {
-          opened = ready.opened;
-          readings_are = ready.readings_are;
           tabled = ready.tabled;
           node = here.0;
           stands = here.2.inside;
           told = element_told (rw here.1 at ready.told);
         }
 
-    pub ready_fields : k ≡ Fields → (to : ℕ) → to ≡ frame_end s place → FieldsReady (levels - 1) readings metadata names s table (place + 3) to
+    pub ready_fields : k ≡ Fields → (to : ℕ) → to ≡ frame_end s place → FieldsReady (levels - 1) names s table (place + 3) to
     ready_fields e to ends =
         let here = object_here ready.stands is e in
         record {
-          opened = ready.opened;
-          readings_are = ready.readings_are;
           tabled = ready.tabled;
           columns = here.0;
           stand = rw ends here.2.inside;
@@ -133,12 +125,12 @@ module _ {levels : ℕ} {names : Dictionary} {s : List ℕ} {node : ℕ} {body :
     pub list_done : length body ≤ place → (element : Schema) → Stands levels s node element → verdict ≡ elements_verdict element levels names body
     list_done h element stands = sym (seen.whole_is element stands ∙ ap (worse verdict) (elements_ended element levels names body place h) ∙ worse_lawful verdict)
 
-    module _ (h : place < length body) {r : Frame} (told : r ≡ place_frame body place) where
-      pub list_cut : r ≡ Cut → (element : Schema) → Stands levels s node element → Unparsed ≡ elements_verdict element levels names body
+    module _ (h : place < length body) {r : Option ℕ} (told : r ≡ place_end body place) where
+      pub list_cut : r ≡ None → (element : Schema) → Stands levels s node element → Unparsed ≡ elements_verdict element levels names body
       list_cut e element stands =
           sym (seen.whole_is element stands ∙ ap (worse verdict) (elements_cut element levels names body place h (place_cut body place r told e)) ∙ worse_unparsed verdict)
 
-      module _ {end : ℕ} (e : r ≡ Ends end) where
+      module _ {end : ℕ} (e : r ≡ Some end) where
         pub list_fits : (place + 3 ≤ end) × (end ≤ length body)
         list_fits = place_fits body place end (place_ends body place end r told e)
 
@@ -166,19 +158,19 @@ pub record FieldsSeen (levels : ℕ) (names : Dictionary) (s table : List ℕ) (
   pub whole_is : (columns : SchemaFields) → FieldsStand levels s from to columns
       → members_verdict columns levels names body ≡ worse verdict (members_verdict rest levels names (drop place body))
 
-pub fields_start : {levels : ℕ} {readings metadata : List ℕ} {names : Names} {s table : List ℕ} {from to : ℕ} → FieldsReady levels readings metadata names s table from to
-    → (body : List ℕ) → FieldsSeen levels (names_in metadata) s table from to body Lawful from 0
-fields_start {levels} {readings} {metadata} {names} {s} ready body =
+pub fields_start : {levels : ℕ} {names : Dictionary} {s table : List ℕ} {from to : ℕ} → FieldsReady levels names s table from to
+    → (body : List ℕ) → FieldsSeen levels names s table from to body Lawful from 0
+fields_start {levels} {names} ready body =
     record {
       within = omega arith;
       rest = ready.columns;
       stand = ready.stand;
       told = ready.told;
-      whole_is = λ columns stand. ap (λ (c : SchemaFields). members_verdict c levels (names_in metadata) body) (one_list stand ready.stand);
+      whole_is = λ columns stand. ap (λ (c : SchemaFields). members_verdict c levels names body) (one_list stand ready.stand);
     }
 
 -- Rule f, by what the table tells of a name.
-nowhere_is : {names : Dictionary} {name : List ℕ} {looked : Looked} → Tells names name looked → is_nowhere looked ≡ not (among name names)
+nowhere_is : {names : Dictionary} {name : List ℕ} {looked : Option InputId} → Tells names name looked → is_nowhere looked ≡ not (among name names)
 unfolding is_nowhere
 nowhere_is {names} (found id below is) = sym (ap not (ap (λ (n : List ℕ). among n names) (sym is) ∙ among_at names id.0 below))
 nowhere_is (missing none_has) = rw none_has
@@ -228,17 +220,9 @@ module _ {levels : ℕ} {names : Dictionary} {s table : List ℕ} {from to : ℕ
     pub field_entry : length s / 9 ≤ length table → entry_place field < length table
     field_entry tabled = let inside = first.stands.inside.within in entry_there field (length s) (length table) (omega arith) tabled
 
-    pub field_ready : {readings metadata : List ℕ} {opens : Names} {start : ℕ} → names ≡ names_in metadata → FieldsReady levels readings metadata opens s table start to
-        → (node : ℕ) → node ≡ field_node s field → NodeReady levels readings metadata opens s table node
-    field_ready same ready node is =
-        record {
-          opened = ready.opened;
-          readings_are = ready.readings_are;
-          tabled = ready.tabled;
-          node = first.node;
-          stands = rw is first.stands.inside;
-          told = rw (is, ← same) first_told.inside;
-        }
+    pub field_ready : length s / 9 ≤ length table → (node : ℕ) → node ≡ field_node s field → NodeReady levels names s table node
+    field_ready tabled node is =
+        record { tabled = tabled; node = first.node; stands = rw is first.stands.inside; told = rw is first_told.inside }
 
     pub fields_few : length body ≤ place → (columns : SchemaFields) → FieldsStand levels s from to columns → Unparsed ≡ members_verdict columns levels names body
     fields_few h columns stand =
@@ -246,14 +230,14 @@ module _ {levels : ℕ} {names : Dictionary} {s table : List ℕ} {from to : ℕ
         ∙ ap (worse verdict) (left_is ∙ members_few levels names body first.name first.node first.more place h)
         ∙ worse_unparsed verdict)
 
-    module _ (h : place < length body) {r : Frame} (told : r ≡ place_frame body place) where
-      pub fields_cut : r ≡ Cut → (columns : SchemaFields) → FieldsStand levels s from to columns → Unparsed ≡ members_verdict columns levels names body
+    module _ (h : place < length body) {r : Option ℕ} (told : r ≡ place_end body place) where
+      pub fields_cut : r ≡ None → (columns : SchemaFields) → FieldsStand levels s from to columns → Unparsed ≡ members_verdict columns levels names body
       fields_cut e columns stand =
           sym (seen.whole_is columns stand
           ∙ ap (worse verdict) (left_is ∙ members_cut levels names body first.name first.node first.more place h (place_cut body place r told e))
           ∙ worse_unparsed verdict)
 
-      module _ {end : ℕ} (e : r ≡ Ends end) where
+      module _ {end : ℕ} (e : r ≡ Some end) where
         pub fields_fit : (place + 3 ≤ end) × (end ≤ length body)
         fields_fit = place_fits body place end (place_ends body place end r told e)
 

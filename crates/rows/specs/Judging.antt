@@ -1,72 +1,66 @@
 -- A row opened and judged: what each answer says of it, and what a lawful row hands on.
-use Rattle.std.specs.Prelude.{true, List, ◌≡◌, ℕ, ◌+◌, ◌/◌, ◌≤◌, length}
-use Rattle.std.proofs.Math.Option.{some}
-use Rattle.dictionary.specs.Judging.{Opened}
-use Rattle.dictionary.specs.declared.Names.{Names}
+use Rattle.paper.specs.declared.Refusal.{Refusal}
+use Rattle.paper.specs.declared.Refusal.TheVariants.{BrokenRule, BadRow}
+use Rattle.paper.specs.Refusals.{Outcome}
+use Rattle.std.specs.Prelude.{true, List, ◌≡◌, ℕ, ◌+◌, ◌/◌, ◌≤◌, length, Some, Option, None, Ok, Err, ◌⊎◌}
+use Rattle.dictionary.specs.Lent.{Lent, lent_of}
 use Rattle.fields.specs.Telling.{Told}
-use Rattle.frames.specs.declared.Frame.TheVariants.{Ends}
-use Rattle.paper.specs.Limits.{most_metadata, most_row, most_levels}
-use Rattle.paper.specs.Metadata.{names_in}
+use Rattle.paper.specs.Bounds.{most_names, most_walked}
+use Rattle.paper.specs.Limits.{most_metadata, most_levels}
 use Rattle.paper.specs.Schemas.{Schema, schema_of}
 use Rattle.paper.specs.Words.{part, is_there}
-use Rattle.places.specs.Halves.{halves_of}
+use Rattle.places.specs.Halves.{middle_of}
 use Rattle.places.specs.Verdicts.{place_verdict, row_verdict}
-use Rattle.rows.specs.declared.judging.Opening.{Opening}
-use Rattle.rows.specs.declared.judging.Opening.TheVariants.{At, Cut}
-use Rattle.rows.specs.declared.judging.RowJudged.{RowJudged}
-use Rattle.rows.specs.declared.judging.RowJudged.TheVariants as judged
 use Rattle.rows.specs.declared.judging.RowParts.{RowParts}
 use Rattle.places.specs.declared.verdicts.Verdict.{Verdict}
 use Rattle.places.specs.declared.verdicts.Verdict.TheVariants.{Lawful, Broken, Unparsed}
 
--- The bytes of a row's metadata, and those that its outermost place holds.
-abbrev pub metadata_of : List ℕ → RowParts → List ℕ
-metadata_of row parts = part row 3 parts.middle
-
-abbrev pub outermost_of : List ℕ → RowParts → List ℕ
-outermost_of row parts = part row (parts.middle + 3) (length row)
-
 -- A row whose halves are in order: under any schema it comes to what its outermost place comes to.
 pub record InOrder (row : List ℕ) (parts : RowParts) : Type 0 where
-  pub first_long : 3 ≤ parts.middle
-  pub second_long : parts.middle + 3 ≤ length row
-  pub halved : halves_of row ≡ Ends parts.middle
-  pub short : length (metadata_of row parts) ≤ most_metadata
-  pub opened : Opened (metadata_of row parts) parts.names
-  pub comes_to : (schema : Schema) → place_verdict schema most_levels (names_in (metadata_of row parts)) (outermost_of row parts) ≡ row_verdict schema row
+  pub middle : ℕ
+  pub first_long : 3 ≤ middle
+  pub second_long : middle + 3 ≤ length row
+  pub halved : middle_of row ≡ Some middle
+  pub opens : lent_of (part row 3 middle) ≡ Some parts.dictionary
+  pub short : parts.dictionary.size ≤ most_metadata
+  pub holds : parts.outermost.now ≡ part row (middle + 3) (length row)
+  pub comes_to : (schema : Schema) → place_verdict schema most_levels parts.dictionary.names parts.outermost.now ≡ row_verdict schema row
 
-pub data OpenedAs (row : List ℕ) : Opening → Type 0 where
-  opened : (parts : RowParts) → InOrder row parts → OpenedAs row (At parts)
-  unopened : ((schema : Schema) → Unparsed ≡ row_verdict schema row) → OpenedAs row Cut
+pub data OpenedAs (row : List ℕ) : Option RowParts → Type 0 where
+  opened : (parts : RowParts) → InOrder row parts → OpenedAs row (Some parts)
+  unopened : ((schema : Schema) → Unparsed ≡ row_verdict schema row) → OpenedAs row None
 
--- An opened row under a good schema, with a table for the ids of the schema's fields.
-pub record RowReady (schema row : List ℕ) (parts : RowParts) (table : List ℕ) : Type 0 where
-  pub in_order : InOrder row parts
+-- An opened row's parts under a good schema, with a table for the ids of the schema's fields.
+pub record PartsReady (schema : List ℕ) (parts : RowParts) (table : List ℕ) : Type 0 where
+  pub lent : Lent parts.dictionary
+  pub few : length parts.dictionary.names ≤ most_names
+  pub small : length parts.outermost.now ≤ most_walked
   pub good : is_there (schema_of schema) ≡ true
   pub tabled : length schema / 9 ≤ length table
-  pub short : length row ≤ most_row
 
 -- A table tells of the schema's fields in the row's dictionary.
-abbrev pub TableTells : (schema row : List ℕ) → RowParts → (table : List ℕ) → Type 0
-TableTells schema row parts table = (node : Schema) → schema_of schema ≡ some node → Told (names_in (metadata_of row parts)) schema table node 0
+abbrev pub TableTells : (schema : List ℕ) → RowParts → (table : List ℕ) → Type 0
+TableTells schema parts table = (node : Schema) → schema_of schema ≡ Some node → Told parts.dictionary.names schema table node 0
 
--- Walked: the row's verdict, and the table tells of the schema's fields.
-pub record Walked (schema row : List ℕ) (parts : RowParts) (table : List ℕ) (verdict : Verdict) : Type 0 where
-  pub verdict_is : (node : Schema) → schema_of schema ≡ some node → verdict ≡ row_verdict node row
-  pub told : TableTells schema row parts table
+-- Walked: the verdict of what the outermost place holds, and the table tells of the schema's fields.
+pub record Walked (schema : List ℕ) (parts : RowParts) (table : List ℕ) (verdict : Verdict) : Type 0 where
+  pub verdict_is : (node : Schema) → schema_of schema ≡ Some node → verdict ≡ place_verdict node most_levels parts.dictionary.names parts.outermost.now
+  pub told : TableTells schema parts table
 
 -- ---- what the judge answers
 
--- What a lawful row hands on: the dictionary opened, where the outermost place stands, each schema field's id.
+-- What a lawful row hands on: the dictionary opened, what the outermost place holds, each schema field's id.
 pub record HandedOn (schema row : List ℕ) (table : List ℕ) (parts : RowParts) : Type 0 where
   pub in_order : InOrder row parts
-  pub told : TableTells schema row parts table
+  pub told : TableTells schema parts table
 
-abbrev pub verdict_in : RowJudged → Verdict
-verdict_in (judged.Lawful parts) = Lawful
-verdict_in judged.Broken = Broken
-verdict_in judged.Unparsed = Unparsed
+-- A row that breaks a rule is refused by 7, one that does not parse by 6, and by nothing else.
+abbrev pub verdict_in : Outcome RowParts → Verdict
+verdict_in (Ok parts) = Lawful
+verdict_in (Err BrokenRule) = Broken
+verdict_in (Err _) = Unparsed
 
-pub record JudgedAs (schema row table : List ℕ) (answer : RowJudged) : Type 0 where
-  pub verdict_is : (node : Schema) → schema_of schema ≡ some node → verdict_in answer ≡ row_verdict node row
-  pub handed : (parts : RowParts) → answer ≡ judged.Lawful parts → HandedOn schema row table parts
+pub record JudgedAs (schema row table : List ℕ) (answer : Outcome RowParts) : Type 0 where
+  pub verdict_is : (node : Schema) → schema_of schema ≡ Some node → verdict_in answer ≡ row_verdict node row
+  pub handed : (parts : RowParts) → answer ≡ Ok parts → HandedOn schema row table parts
+  pub refused : (r : Refusal) → answer ≡ Err r → (r ≡ BrokenRule) ⊎ (r ≡ BadRow)

@@ -1,132 +1,106 @@
 // A row judged under a good schema, and what a lawful one hands on.
 ghost use Rattle.std.specs.Prelude.{true, false, ◌≡◌, ◌/◌, ◌≤◌, length};
+ghost use Rattle.paper.specs.Bounds.{most_names};
 ghost use Rattle.paper.specs.Limits.{most_row};
 ghost use Rattle.paper.specs.Schemas.{schema_of};
 ghost use Rattle.paper.specs.Words.{is_there};
-ghost use Rattle.rows.specs.Judging.{OpenedAs, RowReady, TableTells, Walked, JudgedAs};
+ghost use Rattle.rows.specs.Judging.{OpenedAs, PartsReady, TableTells, Walked, JudgedAs};
 
-use crate::walker::place;
-use dictionary::{Judged, Names};
-use frames::Frame;
+use crate::walker::Walk;
+use dictionary::Dictionary;
+use heads::Readings;
+use paper::Refusal;
 use places::{Verdict, row_halves};
 
-// What was read of a row: its metadata's frame ends at `middle`, where its outermost place starts, and the dictionary is
-// opened. Each schema field's id in it is in the table that was lent.
-#[derive(Clone, Copy)]
-pub struct RowParts {
-    pub middle: usize,
-    pub names: Names,
-}
-
-// A row's two halves: opened, or not to be parsed under any schema.
-#[derive(Clone, Copy)]
-pub enum Opening {
-    At(RowParts),
-    Cut,
-}
-
-// What a row is: lawful, with what was read of it; broken, 7; unparsed, 6.
-#[derive(Clone, Copy)]
-pub enum RowJudged {
-    Lawful(RowParts),
-    Broken,
-    Unparsed,
+// What was read of a row: its dictionary, and what its outermost place holds. Each schema field's id in the dictionary is in the
+// table that was lent.
+#[derive(Drop)]
+pub struct RowParts<'a> {
+    pub dictionary: Dictionary<'a>,
+    pub outermost: &'a [u8],
 }
 
 // Opens a row: `40` metadata that keeps its rules, `50` the outermost place, nothing more.
-fn open_row(row: &[u8]) -> Opening
+fn open_row(row: &[u8]) -> Option<RowParts<'_>>
     ensures { OpenedAs row.now result }
 {
-    let Frame::Ends(middle) = row_halves(row) else {
-        return Opening::Cut;
-    };
+    let middle = row_halves(row)?;
     if row[0] != 0x40 {
-        return Opening::Cut;
+        return None;
     }
     if paper::MOST_METADATA < middle - 3 {
-        return Opening::Cut;
+        return None;
     }
-    let Judged::Good(names) = dictionary::judge(&row[3..middle]) else {
-        return Opening::Cut;
-    };
+    let dictionary = dictionary::judge(&row[3..middle])?;
     if row[middle] != 0x50 {
-        return Opening::Cut;
+        return None;
     }
-    Opening::At(RowParts { middle, names })
+    Some(RowParts {
+        dictionary,
+        outermost: &row[middle + 3..],
+    })
 }
 
 // Walks the outermost place, with a table that tells each schema field's id.
-fn outermost(schema: &[u8], row: &[u8], parts: RowParts, table: &[u16]) -> Verdict
-    requires { RowReady schema.now row.now parts table.now × TableTells schema.now row.now parts table.now }
-    ensures { Walked schema.now row.now parts table.now result }
+fn outermost(schema: &[u8], parts: &RowParts, table: &[u16]) -> Verdict
+    requires { PartsReady schema.now parts.now table.now × TableTells schema.now parts.now table.now }
+    ensures { Walked schema.now parts.now table.now result }
 {
-    let readings = heads::READINGS;
-    let names = parts.names;
-    let middle = parts.middle;
-    let inner = middle + 3;
-    let end = row.len();
-    place(
-        paper::MOST_LEVELS,
-        &readings,
-        &row[3..middle],
-        names,
+    let walk = Walk {
+        readings: &Readings::new(),
+        dictionary: &parts.dictionary,
         schema,
         table,
-        0,
-        &row[inner..end],
-    )
+    };
+    walk.place(paper::MOST_LEVELS, 0, parts.outermost)
 }
 
 // Finds the id of each schema field, and walks the outermost place.
-fn walk(schema: &[u8], row: &[u8], parts: RowParts, order: &mut [u16], table: &mut [u16]) -> Verdict
-    requires { RowReady schema.now row.now parts table.old × (parts.names.sorted ≡ false → parts.names.count ≤ length order.old) }
-    ensures { Walked schema.now row.now parts table.new result }
+fn walk(schema: &[u8], parts: &RowParts, order: &mut [u16], table: &mut [u16]) -> Verdict
+    requires { PartsReady schema.now parts.now table.old × (parts.now.dictionary.sorted ≡ false → length parts.now.dictionary.names ≤ length order.old) }
+    ensures { Walked schema.now parts.now table.new result }
 {
-    let names = parts.names;
-    let middle = parts.middle;
-    let metadata = &row[3..middle];
-    lookup::sort_names(metadata, names, order);
-    fields::fill(schema, metadata, names, order, table);
-    outermost(schema, row, parts, table)
+    lookup::sort_names(&parts.dictionary, order);
+    fields::fill(schema, &parts.dictionary, order, table);
+    outermost(schema, parts, table)
+}
+
+// Walks with room for the index of so many names.
+fn walk_with<const N: usize>(schema: &[u8], parts: &RowParts, table: &mut [u16]) -> Verdict
+    requires { PartsReady schema.now parts.now table.old × (parts.now.dictionary.sorted ≡ false → length parts.now.dictionary.names ≤ N) × (N ≤ most_names) }
+    ensures { Walked schema.now parts.now table.new result }
+{
+    let mut order = [0u16; N];
+    walk(schema, parts, &mut order, table)
 }
 
 // Where no field is named nothing is looked up. The index of the names goes by their number; a sorted dictionary needs none.
-fn walk_indexed(schema: &[u8], row: &[u8], parts: RowParts, table: &mut [u16]) -> Verdict
-    requires { RowReady schema.now row.now parts table.old }
-    ensures { Walked schema.now row.now parts table.new result }
+fn walk_indexed(schema: &[u8], parts: &RowParts, table: &mut [u16]) -> Verdict
+    requires { PartsReady schema.now parts.now table.old }
+    ensures { Walked schema.now parts.now table.new result }
 {
     if !fields::names_fields(schema) {
-        return outermost(schema, row, parts, table);
+        return outermost(schema, parts, table);
     }
-    let names = parts.names;
-    if names.sorted {
-        let mut order = [0u16; 1];
-        return walk(schema, row, parts, &mut order, table);
+    if parts.dictionary.is_sorted() {
+        return walk_with::<1>(schema, parts, table);
     }
-    if names.count <= 64 {
-        let mut order = [0u16; 64];
-        return walk(schema, row, parts, &mut order, table);
+    match parts.dictionary.len() {
+        0..=64 => walk_with::<64>(schema, parts, table),
+        65..=1024 => walk_with::<1024>(schema, parts, table),
+        _ => walk_with::<16384>(schema, parts, table),
     }
-    if names.count <= 1024 {
-        let mut order = [0u16; 1024];
-        return walk(schema, row, parts, &mut order, table);
-    }
-    let mut order = [0u16; 16384];
-    walk(schema, row, parts, &mut order, table)
 }
 
 // Judges a row under a good schema. Of a lawful row the table tells each schema field's id in its dictionary.
-pub fn judge(schema: &[u8], row: &[u8], table: &mut [u16]) -> RowJudged
+pub fn judge<'a>(schema: &[u8], row: &'a [u8], table: &mut [u16]) -> Result<RowParts<'a>, Refusal>
     requires { (is_there (schema_of schema.now) ≡ true) × (length schema.now / 9 ≤ length table.old) × (length row.now ≤ most_row) }
     ensures { JudgedAs schema.now row.now table.new result }
 {
-    let Opening::At(parts) = open_row(row) else {
-        return RowJudged::Unparsed;
-    };
-    let verdict = walk_indexed(schema, row, parts, table);
-    match verdict {
-        Verdict::Lawful => RowJudged::Lawful(parts),
-        Verdict::Broken => RowJudged::Broken,
-        Verdict::Unparsed => RowJudged::Unparsed,
+    let parts = open_row(row).ok_or(Refusal::BadRow)?;
+    match walk_indexed(schema, &parts, table) {
+        Verdict::Lawful => Ok(parts),
+        Verdict::Broken => Err(Refusal::BrokenRule),
+        Verdict::Unparsed => Err(Refusal::BadRow),
     }
 }

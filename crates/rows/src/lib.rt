@@ -5,4 +5,4 @@ mod judging;
 mod quick;
 mod walker;
 
-pub use judging::{RowJudged, RowParts, judge};
+pub use judging::{RowParts, judge};

@@ -1,7 +1,7 @@
 -- A good tree that is written is read back: with the law before, a good schema and its tree are one another's.
+use Rattle.std.specs.Prelude.{Some}
 use mathlib.Core.Bool.{true}
 use mathlib.Core.List.{List, [], ◌∷◌, ◌++◌}
-use mathlib.Core.Option.{some}
 use mathlib.Core.Path.{◌≡◌, refl, sym, ap, ◌∙◌}
 use Prim.Native.Nat.{ℕ, suc, ◌+◌, ◌-◌, ◌<◌}
 use native.Mathlib.Omega.{arith}
@@ -42,7 +42,7 @@ node_piece_lem (fields columns) = refl
 piece_fits : (node : Schema) → length (schema_bytes node) < 65536 → length (node_piece node).body < 65536
 piece_fits node h = omega (arith, ap length (node_piece_lem node), length_frame (node_piece node).tag (node_piece node).body)
 
-node_pieces : (node : Schema) → length (schema_bytes node) < 65536 → pieces_of (schema_bytes node) ≡ some (node_piece node ∷ [])
+node_pieces : (node : Schema) → length (schema_bytes node) < 65536 → pieces_of (schema_bytes node) ≡ Some (node_piece node ∷ [])
 node_pieces node h = ap pieces_of (sym (node_piece_lem node)) ∙ frame_alone (node_piece node).tag (node_piece node).body (piece_fits node h)
 
 -- What a field takes.
@@ -56,7 +56,7 @@ field_length name node more =
 body_length : (name : List ℕ) (node : Schema) → length (frame 0x32 name ++ schema_bytes node) ≡ 3 + length name + length (schema_bytes node)
 body_length name node = omega (arith, length-append (frame 0x32 name) (schema_bytes node), length_frame 0x32 name)
 
-fields_pieces : (columns : SchemaFields) → length (fields_bytes columns) < 65536 → pieces_of (fields_bytes columns) ≡ some (field_pieces columns)
+fields_pieces : (columns : SchemaFields) → length (fields_bytes columns) < 65536 → pieces_of (fields_bytes columns) ≡ Some (field_pieces columns)
 unfolding field_pieces schema_bytes pieces_of pieces_within piece_then and_then
 fields_pieces none_named h = refl
 fields_pieces (named name node more) h =
@@ -75,7 +75,7 @@ node_read node levels good = node_step levels (node_piece node) (omega (arith, g
 mutual
   unfolding node_piece field_pieces node_tag node_by column_of one_piece only field_nodes field_parts piece_then given and_then
 
-  node_back : (node : Schema) (levels : ℕ) → good_schema node levels ≡ true → length (schema_bytes node) < 65536 → node_of levels (node_piece node) ≡ some node
+  node_back : (node : Schema) (levels : ℕ) → good_schema node levels ≡ true → length (schema_bytes node) < 65536 → node_of levels (node_piece node) ≡ Some node
   node_back leftover_only levels good fits = node_read leftover_only levels good
   node_back (column said) levels good fits = node_read (column said) levels good ∙ rw (good_column said levels good)
   node_back (list element) levels good fits =
@@ -88,7 +88,7 @@ mutual
       ∙ rw (fields_pieces columns shorter, fields_back columns (levels - 1) object.inside shorter, some_pieces columns object.some_field_lem, object.rise)
 
   fields_back : (columns : SchemaFields) (levels : ℕ) → good_fields columns levels ≡ true → length (fields_bytes columns) < 65536
-      → field_nodes (node_of levels) (field_pieces columns) ≡ some columns
+      → field_nodes (node_of levels) (field_pieces columns) ≡ Some columns
   fields_back none_named levels good fits = refl
   fields_back (named name node more) levels good fits =
       let each = good_field name node more levels good in
@@ -96,6 +96,6 @@ mutual
       let shorter : length (schema_bytes node) < 65536 = omega arith in
       rw (fields_back more levels each.1 (omega arith), pieces_frame 0x32 name (schema_bytes node) (omega arith), node_pieces node shorter, node_back node levels each.0 shorter)
 
-pub schema_back : (node : Schema) → good_schema node most_levels ≡ true → length (schema_bytes node) < 65536 → schema_of (schema_bytes node) ≡ some node
+pub schema_back : (node : Schema) → good_schema node most_levels ≡ true → length (schema_bytes node) < 65536 → schema_of (schema_bytes node) ≡ Some node
 unfolding schema_of one_piece only and_then
 schema_back node good fits = rw (node_pieces node fits) (node_back node most_levels good fits)

@@ -1,10 +1,10 @@
 -- A field's two frames and the order of two fields, as the judge tests them.
-use mathlib.Core.Bool.{Bool, true, false, not}
+use mathlib.Core.Bool.{Bool, true, false}
 use mathlib.Core.List.{List}
 use mathlib.Core.Path.{◌≡◌, sym, ◌∙◌}
 use Prim.Native.Nat.{ℕ, ◌+◌, ◌≤◌}
 use native.Mathlib.Omega.{arith}
-use borrow.Author.Tests.{eq-eqb, ne_eqb, not-true, not-false}
+use borrow.Author.Tests.{eq-eqb, ne_eqb}
 use lib.ListN.{length}
 use Rattle.order.specs.Before.{before}
 use Rattle.paper.specs.Words.{at}
@@ -16,13 +16,13 @@ use Rattle.schemas.specs.Positions.{field_node, field_name, field_within, follow
 -- ---- a field's two frames
 
 module _ (s : List ℕ) (place end : ℕ) (first : Bool) (is : first ≡ tagged_within s place end 0x31) where
-  pub field_not : not first ≡ true → false ≡ field_within s place end
+  pub field_not : first ≡ false → first ≡ field_within s place end
   unfolding field_within
-  field_not e = let f : tagged_within s place end 0x31 ≡ false = sym is ∙ not-true first e in rw f
+  field_not e = let f : tagged_within s place end 0x31 ≡ false = sym is ∙ e in rw (e, f)
 
-  module _ (passed : not first ≡ false) where
+  module _ (passed : first ≡ true) where
     frame_passed : tagged_within s place end 0x31 ≡ true
-    frame_passed = sym is ∙ not-false first passed
+    frame_passed = sym is ∙ passed
 
     pub field_frame : end ≤ length s → frame_end s place ≤ length s
     field_frame within = omega (arith, tagged_ends s place end 0x31 frame_passed)

@@ -1,8 +1,8 @@
 -- The fields that stand between two positions, one after another: a name, a node that stands behind it, and the fields behind
 -- both.
+use Rattle.std.specs.Prelude.{Option, Some}
 use mathlib.Core.Bool.{Bool, true, false}
 use mathlib.Core.List.{List}
-use mathlib.Core.Option.{Option, some}
 use mathlib.Core.Path.{◌≡◌, refl, sym, ap, subst, ◌∙◌}
 use Prim.Native.Nat.{ℕ, ◌+◌, ◌≤◌, ◌<◌}
 use native.Mathlib.Omega.{arith}
@@ -41,7 +41,7 @@ pub record FirstField (levels : ℕ) (s : List ℕ) (place to : ℕ) (columns : 
 module _ {levels : ℕ} {s : List ℕ} {place to : ℕ} where
   pub no_field : {columns : SchemaFields} → FieldsStand levels s place to columns → to ≤ place → columns ≡ none_named
   no_field stand past =
-      let none_left : columns_in levels s place to ≡ some none_named = columns_ended levels s place to past in
+      let none_left : columns_in levels s place to ≡ Some none_named = columns_ended levels s place to past in
       let are = stand.are in
       cc
 
@@ -52,8 +52,8 @@ module _ {levels : ℕ} {s : List ℕ} {place to : ℕ} where
       let more? : Option SchemaFields = columns_in levels s (frame_end s place) to in
       let framed = given_some (field_within s place to) (field_then (field_name s place) node? more?) (sym (columns_at levels s place to some_left stand.within) ∙ stand.are) in
       let here : FieldHere s place to = field_here s place to framed.0 in
-      let node = then_some node? (λ n. and_then more? λ columns. some (named (field_name s place) n columns)) framed.1 in
-      let more = then_some more? (λ columns. some (named (field_name s place) node.0 columns)) node.2 in
+      let node = then_some node? (λ n. and_then more? λ columns. Some (named (field_name s place) n columns)) framed.1 in
+      let more = then_some more? (λ columns. Some (named (field_name s place) node.0 columns)) node.2 in
       let inside = node_stands levels s (field_node s place) (frame_end s place) node.0 (omega (arith, here.frame_in, stand.within)) node.1 in
       let same : named (field_name s place) node.0 more.0 ≡ columns = cc more.2 in
       let rise : rising (column_names (named (field_name s place) node.0 more.0)) ≡ true = ap (λ (c : SchemaFields). rising (column_names c)) same ∙ stand.rise in

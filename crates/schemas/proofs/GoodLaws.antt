@@ -1,7 +1,7 @@
 -- The rules of a schema as a tree: going into a good one, and that a schema that is read is good.
+use Rattle.std.specs.Prelude.{Some}
 use mathlib.Core.Bool.{Bool, true, ◌&&◌}
 use mathlib.Core.List.{List}
-use mathlib.Core.Option.{some}
 use mathlib.Core.Path.{◌≡◌, refl, ap}
 use Prim.Native.Nat.{ℕ, ◌+◌, ◌-◌, ◌≤◌}
 use borrow.Author.Tests.{le-leb, leb-true}
@@ -84,5 +84,5 @@ module _ (s : List ℕ) where
         let field = field_stands stand in
         both (node_good node levels (field_node s place) field.inside) (fields_good more levels (frame_end s place) to field.behind)
 
-pub schema_good : (s : List ℕ) (node : Schema) → schema_of s ≡ some node → good_schema node most_levels ≡ true
+pub schema_good : (s : List ℕ) (node : Schema) → schema_of s ≡ Some node → good_schema node most_levels ≡ true
 schema_good s node e = node_good s node most_levels 0 (schema_stands s node e).0

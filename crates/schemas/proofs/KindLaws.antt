@@ -3,7 +3,7 @@ use mathlib.Core.List.{List}
 use mathlib.Core.Path.{◌≡◌, refl, sym, subst, ◌∙◌}
 use Prim.Native.Nat.{ℕ, ◌+◌}
 use native.Mathlib.Omega.{arith}
-use borrow.Author.Tests.{eq-eqb, ne_eqb}
+use borrow.Author.Tests.{ne_eqb}
 use Rattle.paper.specs.Schemas.{Column, Schema, leftover_only, column, list, fields, SchemaFields}
 use Rattle.paper.specs.Words.{at}
 use Rattle.schemas.proofs.StandingLaws.{LeftoverStands, ColumnStands, ListStands, ObjectStands, NodeAt, leftover_at, column_at, list_at, fields_at, node_at}
@@ -16,21 +16,19 @@ use Rattle.schemas.specs.declared.readers.Kind.TheVariants.{Leftover, Column as 
 module _ (s : List ℕ) (place : ℕ) where
   pub kind_leftover : at s place ≡ 0x00 → Leftover ≡ kind_at s place
   unfolding kind_at
-  kind_leftover e = rw (eq-eqb (at s place) 0x00 e)
+  kind_leftover e = rw e
 
-  module _ (a : at s place ≡ 0x00 → ⊥) where
-    pub kind_column : at s place ≡ 0x10 → ColumnKind (at s (place + 3)) ≡ kind_at s place
-    unfolding kind_at
-    kind_column e = rw (ne_eqb (at s place) 0x00 a, eq-eqb (at s place) 0x10 e)
+  pub kind_column : at s place ≡ 0x10 → ColumnKind (at s (place + 3)) ≡ kind_at s place
+  unfolding kind_at
+  kind_column e = rw e
 
-    module _ (b : at s place ≡ 0x10 → ⊥) where
-      pub kind_list : at s place ≡ 0x20 → ListKind ≡ kind_at s place
-      unfolding kind_at
-      kind_list e = rw (ne_eqb (at s place) 0x00 a, ne_eqb (at s place) 0x10 b, eq-eqb (at s place) 0x20 e)
+  pub kind_list : at s place ≡ 0x20 → ListKind ≡ kind_at s place
+  unfolding kind_at
+  kind_list e = rw e
 
-      pub kind_fields : (at s place ≡ 0x20 → ⊥) → Fields ≡ kind_at s place
-      unfolding kind_at
-      kind_fields d = rw (ne_eqb (at s place) 0x00 a, ne_eqb (at s place) 0x10 b, ne_eqb (at s place) 0x20 d)
+  pub kind_fields : (at s place ≡ 0x00 → ⊥) → (at s place ≡ 0x10 → ⊥) → (at s place ≡ 0x20 → ⊥) → Fields ≡ kind_at s place
+  unfolding kind_at
+  kind_fields a b d = rw (ne_eqb (at s place) 0x00 a, ne_eqb (at s place) 0x10 b, ne_eqb (at s place) 0x20 d)
 
 -- ---- what stands there
 

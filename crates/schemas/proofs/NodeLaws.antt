@@ -1,7 +1,7 @@
 -- A node judged by its frame, then by its tag.
+use Rattle.std.specs.Prelude.{Option, None, Some}
 use mathlib.Core.Bool.{Bool, true, false}
 use mathlib.Core.List.{List}
-use mathlib.Core.Option.{Option, none, some}
 use mathlib.Core.Path.{◌≡◌, refl, sym, ◌∙◌}
 use Prim.Native.Nat.{ℕ, zero, suc, ◌+◌, ◌-◌, ◌≤◌, ◌<◌}
 use native.Mathlib.Omega.{arith}
@@ -32,7 +32,7 @@ module _ (s : List ℕ) (from to : ℕ) (within : to ≤ length s) where
   column_one h b e =
       rw (length_part s from to within, eq-eqb (to - from) 1 h, part_cons s from to within (omega arith), ← e) (go b)
     where
-      go : (b : Bool) → b ≡ is_there {A = Column} (given b (some (record { code = at s from })))
+      go : (b : Bool) → b ≡ is_there {A = Column} (given b (Some (record { code = at s from })))
       go true = refl
       go false = refl
 
@@ -43,8 +43,8 @@ unfolding node_in and_then is_there node_of
 node_none levels s from to e = rw e (go (one_piece (part s from to)))
   where
     go : (x : Option Piece) → false ≡ is_there (and_then x (node_of 0))
-    go none = refl
-    go (some piece) = refl
+    go None = refl
+    go (Some piece) = refl
 
 pub node_step : (levels : ℕ) (piece : Piece) → (levels ≡ 0 → ⊥) → node_of levels piece ≡ node_by (node_of (levels - 1)) (node_tag piece.tag) piece.body
 unfolding node_of
@@ -78,34 +78,30 @@ module _ (levels : ℕ) (s : List ℕ) (from to : ℕ) (ordered : from ≤ to) (
       unfolding node_tag node_by given is_there
       node_leftover e = rw (node_by_lem, eq-eqb (at s from) 0x00 e, length_part s (from + 3) to within) (go (eqb (from + 3) to) refl)
         where
-          go : (b : Bool) → eqb (from + 3) to ≡ b → b ≡ is_there (given (eqb (to - (from + 3)) 0) (some leftover_only))
+          go : (b : Bool) → eqb (from + 3) to ≡ b → b ≡ is_there (given (eqb (to - (from + 3)) 0) (Some leftover_only))
           go true f = let same : from + 3 ≡ to = eqb-true (from + 3) to f in rw (eq-eqb (to - (from + 3)) 0 (omega arith))
           go false f = rw (ne_eqb (to - (from + 3)) 0 (λ same. eqb-false (from + 3) to f (omega arith)))
 
-      module _ (first : at s from ≡ 0x00 → ⊥) where
-        pub node_column : at s from ≡ 0x10 → (b : Bool) → b ≡ is_there (column_of (part s (from + 3) to)) → b ≡ is_there (node_in levels s from to)
-        unfolding node_tag node_by is_there
-        node_column e b judged =
-            rw (node_by_lem, ne_eqb (at s from) 0x00 first, eq-eqb (at s from) 0x10 e)
-            (judged ∙ sym (there_then (column_of (part s (from + 3) to)) (λ said. some (column said)) (λ said. refl)))
+      pub node_column : at s from ≡ 0x10 → (b : Bool) → b ≡ is_there (column_of (part s (from + 3) to)) → b ≡ is_there (node_in levels s from to)
+      unfolding node_tag node_by is_there
+      node_column e b judged =
+          rw (node_by_lem, e) (judged ∙ sym (there_then (column_of (part s (from + 3) to)) (λ said. Some (column said)) (λ said. refl)))
 
-        module _ (second : at s from ≡ 0x10 → ⊥) where
-          pub node_list : at s from ≡ 0x20 → (b : Bool) → b ≡ is_there (node_in (levels - 1) s (from + 3) to) → b ≡ is_there (node_in levels s from to)
-          unfolding node_tag node_by node_in and_then is_there
-          node_list e b judged = judged ∙ rw (node_by_lem, ne_eqb (at s from) 0x00 first, ne_eqb (at s from) 0x10 second, eq-eqb (at s from) 0x20 e) (go (one_piece (part s (from + 3) to)))
-            where
-              go : (x : Option Piece) → is_there (and_then x (node_of (levels - 1))) ≡ is_there (and_then x λ piece. and_then (node_of (levels - 1) piece) λ element. some (list element))
-              go none = refl
-              go (some piece) = sym (there_then (node_of (levels - 1) piece) (λ element. some (list element)) (λ element. refl))
+      pub node_list : at s from ≡ 0x20 → (b : Bool) → b ≡ is_there (node_in (levels - 1) s (from + 3) to) → b ≡ is_there (node_in levels s from to)
+      unfolding node_tag node_by node_in and_then is_there
+      node_list e b judged = judged ∙ rw (node_by_lem, e) (go (one_piece (part s (from + 3) to)))
+        where
+          go : (x : Option Piece) → is_there (and_then x (node_of (levels - 1))) ≡ is_there (and_then x λ piece. and_then (node_of (levels - 1) piece) λ element. Some (list element))
+          go None = refl
+          go (Some piece) = sym (there_then (node_of (levels - 1) piece) (λ element. Some (list element)) (λ element. refl))
 
-          module _ (third : at s from ≡ 0x20 → ⊥) where
-            pub node_fields : at s from ≡ 0x30 → (b : Bool) → b ≡ is_there (object_in (levels - 1) s (from + 3) to) → b ≡ is_there (node_in levels s from to)
-            unfolding node_tag object_in
-            node_fields e b judged = judged ∙ rw (node_by_lem, ne_eqb (at s from) 0x00 first, ne_eqb (at s from) 0x10 second, ne_eqb (at s from) 0x20 third, eq-eqb (at s from) 0x30 e)
+      pub node_fields : at s from ≡ 0x30 → (b : Bool) → b ≡ is_there (object_in (levels - 1) s (from + 3) to) → b ≡ is_there (node_in levels s from to)
+      unfolding node_tag object_in
+      node_fields e b judged = judged ∙ rw (node_by_lem, e)
 
-            pub node_other : (at s from ≡ 0x30 → ⊥) → false ≡ is_there (node_in levels s from to)
-            unfolding node_tag node_by is_there
-            node_other h = rw (node_by_lem, ne_eqb (at s from) 0x00 first, ne_eqb (at s from) 0x10 second, ne_eqb (at s from) 0x20 third, ne_eqb (at s from) 0x30 h)
+      pub node_other : (at s from ≡ 0x00 → ⊥) → (at s from ≡ 0x10 → ⊥) → (at s from ≡ 0x20 → ⊥) → (at s from ≡ 0x30 → ⊥) → false ≡ is_there (node_in levels s from to)
+      unfolding node_tag node_by is_there
+      node_other a b c d = rw (node_by_lem, ne_eqb (at s from) 0x00 a, ne_eqb (at s from) 0x10 b, ne_eqb (at s from) 0x20 c, ne_eqb (at s from) 0x30 d)
 
 -- A schema is a node that fills it.
 pub schema_node : (s : List ℕ) → node_in most_levels s 0 (length s) ≡ schema_of s

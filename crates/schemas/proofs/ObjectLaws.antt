@@ -1,9 +1,9 @@
 -- The loop over an object's fields: up to a field its fields are good, and those from it on decide.
+use Rattle.std.specs.Prelude.{Option, None, Some}
 use mathlib.Core.Bool.{Bool, true, false, not, ◌&&◌}
 use mathlib.Core.List.{List, [], ◌∷◌, ◌++◌}
-use mathlib.Core.Option.{Option, none, some}
 use mathlib.Core.Path.{◌≡◌, refl, sym, ◌∙◌}
-use Prim.Native.Nat.{ℕ, ◌+◌, ◌≤◌, ◌<◌}
+use Prim.Native.Nat.{ℕ, ◌≤◌, ◌<◌}
 use native.Mathlib.Omega.{arith}
 use borrow.Author.Tests.{le-leb, eq-eqb, ne_eqb, eqb-true, eqb-false, not-true, not-false}
 use lib.Dec.{leb, eqb}
@@ -24,7 +24,7 @@ use Rattle.schemas.specs.Positions.{field_node, field_name, field_within, follow
 
 -- Fields are there, and their names rise behind some.
 unfoldable pub rising_behind : List (List ℕ) → Option SchemaFields → Bool
-rising_behind names more = is_there (and_then more λ columns. given (rising (names ++ column_names columns)) (some columns))
+rising_behind names more = is_there (and_then more λ columns. given (rising (names ++ column_names columns)) (Some columns))
 
 -- The name of the field before the one at a place, if there is one.
 pub data NameBefore (s : List ℕ) (last place : ℕ) : List (List ℕ) → Type 0 where
@@ -32,7 +32,7 @@ pub data NameBefore (s : List ℕ) (last place : ℕ) : List (List ℕ) → Type
   behind_field : last < place → field_node s last ≤ length s → NameBefore s last place (field_name s last ∷ [])
 
 -- Whether a test passes does not depend on what it is for.
-same_test : {A B : Type 0} (b : Bool) (x : A) (y : B) → is_there (given b (some x)) ≡ is_there (given b (some y))
+same_test : {A B : Type 0} (b : Bool) (x : A) (y : B) → is_there (given b (Some x)) ≡ is_there (given b (Some y))
 unfolding given is_there
 same_test true x y = refl
 same_test false x y = refl
@@ -40,21 +40,21 @@ same_test false x y = refl
 rising_then : (s : List ℕ) (last place : ℕ) {names : List (List ℕ)} → NameBefore s last place names → (node : Option Schema) (more : Option SchemaFields)
     → rising_behind names (field_then (field_name s place) node more) ≡ is_there node && (follows_at s last place && rising_behind (field_name s place ∷ []) more)
 unfolding rising_behind field_then and_then is_there column_names follows_at given rising
-rising_then s last place (first_field e) none more = refl
-rising_then s last place (first_field e) (some node) none = rw (eq-eqb last place e)
-rising_then s last place (first_field e) (some node) (some columns) =
+rising_then s last place (first_field e) None more = refl
+rising_then s last place (first_field e) (Some node) None = rw (eq-eqb last place e)
+rising_then s last place (first_field e) (Some node) (Some columns) =
     rw (eq-eqb last place e) (same_test (rising (field_name s place ∷ column_names columns)) (named (field_name s place) node columns) columns)
-rising_then s last place (behind_field h k) none more = refl
-rising_then s last place (behind_field h k) (some node) none = rw (ne_eqb last place (omega arith)) (go (before (field_name s last) (field_name s place)))
+rising_then s last place (behind_field h k) None more = refl
+rising_then s last place (behind_field h k) (Some node) None = rw (ne_eqb last place (omega arith)) (go (before (field_name s last) (field_name s place)))
   where
     go : (b : Bool) → false ≡ b && false
     go true = refl
     go false = refl
-rising_then s last place (behind_field h k) (some node) (some columns) =
+rising_then s last place (behind_field h k) (Some node) (Some columns) =
     rw (ne_eqb last place (omega arith)) (go (before (field_name s last) (field_name s place)))
   where
-    go : (b : Bool) → is_there (given (b && rising (field_name s place ∷ column_names columns)) (some (named (field_name s place) node columns)))
-        ≡ b && is_there (given (rising (field_name s place ∷ column_names columns)) (some columns))
+    go : (b : Bool) → is_there (given (b && rising (field_name s place ∷ column_names columns)) (Some (named (field_name s place) node columns)))
+        ≡ b && is_there (given (rising (field_name s place ∷ column_names columns)) (Some columns))
     go true = same_test (rising (field_name s place ∷ column_names columns)) (named (field_name s place) node columns) columns
     go false = refl
 
@@ -78,17 +78,17 @@ module _ (levels : ℕ) (s : List ℕ) (from to : ℕ) (ordered : from ≤ to) (
   object_columns some_bytes = rw (pieces_step s from to within (omega arith)) (go (frame_within s from to) (pieces_of (part s (frame_end s from) to)))
     where
       counted : (pieces : List Piece) → leb 1 (length pieces) ≡ true → (more : Option SchemaFields)
-          → is_there (and_then more λ columns. given (leb 1 (length pieces) && rising (column_names columns)) (some (fields columns)))
-          ≡ is_there (and_then more λ columns. given (rising (column_names columns)) (some columns))
-      counted pieces e none = refl
-      counted pieces e (some columns) = rw e (same_test (rising (column_names columns)) (fields columns) columns)
+          → is_there (and_then more λ columns. given (leb 1 (length pieces) && rising (column_names columns)) (Some (fields columns)))
+          ≡ is_there (and_then more λ columns. given (rising (column_names columns)) (Some columns))
+      counted pieces e None = refl
+      counted pieces e (Some columns) = rw e (same_test (rising (column_names columns)) (fields columns) columns)
 
       go : (b : Bool) (rest : Option (List Piece))
-          → is_there (and_then (given b (piece_then (piece_at s from) rest)) λ pieces. and_then (field_nodes (node_of levels) pieces) λ columns. given (leb 1 (length pieces) && rising (column_names columns)) (some (fields columns)))
-          ≡ is_there (and_then (and_then (given b (piece_then (piece_at s from) rest)) (field_nodes (node_of levels))) λ columns. given (rising (column_names columns)) (some columns))
+          → is_there (and_then (given b (piece_then (piece_at s from) rest)) λ pieces. and_then (field_nodes (node_of levels) pieces) λ columns. given (leb 1 (length pieces) && rising (column_names columns)) (Some (fields columns)))
+          ≡ is_there (and_then (and_then (given b (piece_then (piece_at s from) rest)) (field_nodes (node_of levels))) λ columns. given (rising (column_names columns)) (Some columns))
       go false rest = refl
-      go true none = refl
-      go true (some pieces) = counted (piece_at s from ∷ pieces) (le-leb 1 (length (piece_at s from ∷ pieces)) (omega arith)) (field_nodes (node_of levels) (piece_at s from ∷ pieces))
+      go true None = refl
+      go true (Some pieces) = counted (piece_at s from ∷ pieces) (le-leb 1 (length (piece_at s from ∷ pieces)) (omega arith)) (field_nodes (node_of levels) (piece_at s from ∷ pieces))
 
   pub fields_start : FieldsSeen levels s from to from from
   fields_start = record { begun = omega arith; before_end = ordered; names = []; seen = first_field refl; whole_is = object_columns }
@@ -106,7 +106,7 @@ module _ {levels : ℕ} {s : List ℕ} {from to last place : ℕ} (seen : Fields
   unfolding rising_behind and_then column_names is_there given rising
   fields_done past = go (eqb from to) refl
     where
-      ended : {names : List (List ℕ)} → NameBefore s last place names → is_there (given (rising (names ++ [])) (some none_named)) ≡ true
+      ended : {names : List (List ℕ)} → NameBefore s last place names → is_there (given (rising (names ++ [])) (Some none_named)) ≡ true
       ended (first_field e) = refl
       ended (behind_field h k) = refl
 

@@ -1,7 +1,7 @@
 -- What stands in a good schema: a node by its kind, with what stands inside it.
+use Rattle.std.specs.Prelude.{Option, Some}
 use mathlib.Core.Bool.{Bool, true, false, cond, ◌&&◌}
 use mathlib.Core.List.{List, []}
-use mathlib.Core.Option.{Option, some}
 use mathlib.Core.Path.{◌≡◌, refl, sym, ap, ◌∙◌}
 use Prim.Native.Nat.{ℕ, zero, suc, ◌+◌, ◌-◌, ◌≤◌, ◌<◌}
 use native.Mathlib.Omega.{arith}
@@ -22,14 +22,14 @@ use Rattle.schemas.specs.Positions.{node_in, columns_in, Stands, FieldsStand}
 
 -- ---- a piece that is alone between two positions
 
-alone_is : (s : List ℕ) (from to : ℕ) → to ≤ length s → {piece : Piece} → one_piece (part s from to) ≡ some piece → (frame_end s from ≡ to) × (piece ≡ piece_at s from)
+alone_is : (s : List ℕ) (from to : ℕ) → to ≤ length s → {piece : Piece} → one_piece (part s from to) ≡ Some piece → (frame_end s from ≡ to) × (piece ≡ piece_at s from)
 unfolding is_there
 alone_is s from to within {piece} e = go (eqb (frame_end s from) to) refl
   where
     go : (b : Bool) → eqb (frame_end s from) to ≡ b → (frame_end s from ≡ to) × (piece ≡ piece_at s from)
     go true f =
         let ends : frame_end s from ≡ to = eqb-true (frame_end s from) to f in
-        let is : one_piece (part s from to) ≡ some (piece_at s from) = one_piece_lem s from to within ends in
+        let is : one_piece (part s from to) ≡ Some (piece_at s from) = one_piece_lem s from to within ends in
         (ends, cc)
     go false f = never (sym (sym (ap is_there (one_not s from to within (eqb-false (frame_end s from) to f))) ∙ ap is_there e))
 
@@ -87,19 +87,19 @@ abbrev body_at : List ℕ → ℕ → List ℕ
 body_at s place = (piece_at s place).body
 
 module _ (levels : ℕ) (s : List ℕ) (place : ℕ) (within : frame_end s place ≤ length s) (node : Schema) where
-  leftover_view : at s place ≡ 0x00 → node_by (node_of (levels - 1)) leftover_tag (body_at s place) ≡ some node → NodeAt levels s place node
+  leftover_view : at s place ≡ 0x00 → node_by (node_of (levels - 1)) leftover_tag (body_at s place) ≡ Some node → NodeAt levels s place node
   unfolding node_by
   leftover_view tag e =
-      let passed = given_some (eqb (length (body_at s place)) 0) (some leftover_only) e in
+      let passed = given_some (eqb (length (body_at s place)) 0) (Some leftover_only) e in
       let same : leftover_only ≡ node = cc passed.1 in
       let size : length (body_at s place) ≡ frame_end s place - (place + 3) = length_part s (place + 3) (frame_end s place) within in
       rw (← same) (leftover_at (record { tagged = tag; ends = omega (arith, eqb-true (length (body_at s place)) 0 passed.0) }))
 
-  column_view : at s place ≡ 0x10 → node_by (node_of (levels - 1)) column_tag (body_at s place) ≡ some node → NodeAt levels s place node
+  column_view : at s place ≡ 0x10 → node_by (node_of (levels - 1)) column_tag (body_at s place) ≡ Some node → NodeAt levels s place node
   unfolding node_by column_of
   column_view tag e =
-      let read = then_some (column_of (body_at s place)) (λ said. some (column said)) e in
-      let passed = given_some (eqb (length (body_at s place)) 1 && column_code (at (body_at s place) 0)) (some (record { code = at (body_at s place) 0 })) read.1 in
+      let read = then_some (column_of (body_at s place)) (λ said. Some (column said)) e in
+      let passed = given_some (eqb (length (body_at s place)) 1 && column_code (at (body_at s place) 0)) (Some (record { code = at (body_at s place) 0 })) read.1 in
       let tests = and_both (eqb (length (body_at s place)) 1) (column_code (at (body_at s place) 0)) passed.0 in
       let size : length (body_at s place) ≡ frame_end s place - (place + 3) = length_part s (place + 3) (frame_end s place) within in
       let one : frame_end s place ≡ place + 4 = omega (arith, eqb-true (length (body_at s place)) 1 tests.0) in
@@ -108,43 +108,43 @@ module _ (levels : ℕ) (s : List ℕ) (place : ℕ) (within : frame_end s place
       let same : column (record { code = at (body_at s place) 0 }) ≡ node = cc (said, read.2) in
       rw (← same) (column_at (record { tagged = tag; ends = one; code_at = first; good = tests.1 }))
 
-  list_view : at s place ≡ 0x20 → node_by (node_of (levels - 1)) list_tag (body_at s place) ≡ some node → NodeAt levels s place node
+  list_view : at s place ≡ 0x20 → node_by (node_of (levels - 1)) list_tag (body_at s place) ≡ Some node → NodeAt levels s place node
   unfolding node_by
   list_view tag e =
-      let alone = then_some (one_piece (body_at s place)) (λ piece. and_then (node_of (levels - 1) piece) λ element. some (list element)) e in
-      let element = then_some (node_of (levels - 1) alone.0) (λ element. some (list element)) alone.2 in
+      let alone = then_some (one_piece (body_at s place)) (λ piece. and_then (node_of (levels - 1) piece) λ element. Some (list element)) e in
+      let element = then_some (node_of (levels - 1) alone.0) (λ element. Some (list element)) alone.2 in
       let fills = alone_is s (place + 3) (frame_end s place) within alone.1 in
       let same : list element.0 ≡ node = cc element.2 in
       let inside : Stands (levels - 1) s (place + 3) element.0 =
       record { within = omega (arith, fills.0); is = sym (ap (node_of (levels - 1)) fills.1) ∙ element.1 } in
       rw (← same) (list_at (record { tagged = tag; inside = inside; fills = fills.0 }))
 
-  some_more : {pieces : List Piece} → pieces_of (body_at s place) ≡ some pieces → 1 ≤ length pieces → place + 3 < frame_end s place
+  some_more : {pieces : List Piece} → pieces_of (body_at s place) ≡ Some pieces → 1 ≤ length pieces → place + 3 < frame_end s place
   some_more {pieces} read some_pieces = go (leb (frame_end s place) (place + 3)) refl
     where
       go : (b : Bool) → leb (frame_end s place) (place + 3) ≡ b → place + 3 < frame_end s place
       go true e =
-          let ended : pieces_of (body_at s place) ≡ some [] = pieces_none s (place + 3) (frame_end s place) (leb-true (frame_end s place) (place + 3) e) in
+          let ended : pieces_of (body_at s place) ≡ Some [] = pieces_none s (place + 3) (frame_end s place) (leb-true (frame_end s place) (place + 3) e) in
           let empty : [] ≡ pieces = cc in
           absurd (omega (arith, ap length empty))
       go false e = leb-false (frame_end s place) (place + 3) e
 
-  fields_view : at s place ≡ 0x30 → node_by (node_of (levels - 1)) fields_tag (body_at s place) ≡ some node → NodeAt levels s place node
+  fields_view : at s place ≡ 0x30 → node_by (node_of (levels - 1)) fields_tag (body_at s place) ≡ Some node → NodeAt levels s place node
   unfolding node_by columns_in and_then
   fields_view tag e =
-      let pieces = then_some (pieces_of (body_at s place)) (λ pieces. and_then (field_nodes (node_of (levels - 1)) pieces) λ columns. given (leb 1 (length pieces) && rising (column_names columns)) (some (fields columns))) e in
-      let columns = then_some (field_nodes (node_of (levels - 1)) pieces.0) (λ columns. given (leb 1 (length pieces.0) && rising (column_names columns)) (some (fields columns))) pieces.2 in
-      let passed = given_some (leb 1 (length pieces.0) && rising (column_names columns.0)) (some (fields columns.0)) columns.2 in
+      let pieces = then_some (pieces_of (body_at s place)) (λ pieces. and_then (field_nodes (node_of (levels - 1)) pieces) λ columns. given (leb 1 (length pieces) && rising (column_names columns)) (Some (fields columns))) e in
+      let columns = then_some (field_nodes (node_of (levels - 1)) pieces.0) (λ columns. given (leb 1 (length pieces.0) && rising (column_names columns)) (Some (fields columns))) pieces.2 in
+      let passed = given_some (leb 1 (length pieces.0) && rising (column_names columns.0)) (Some (fields columns.0)) columns.2 in
       let tests = and_both (leb 1 (length pieces.0)) (rising (column_names columns.0)) passed.0 in
       let same : fields columns.0 ≡ node = cc passed.1 in
       let more : place + 3 < frame_end s place = some_more pieces.1 (leb-true 1 (length pieces.0) tests.0) in
-      let are : columns_in (levels - 1) s (place + 3) (frame_end s place) ≡ some columns.0 =
+      let are : columns_in (levels - 1) s (place + 3) (frame_end s place) ≡ Some columns.0 =
       ap (λ (x : Option (List Piece)). and_then x (field_nodes (node_of (levels - 1)))) pieces.1 ∙ columns.1 in
       let inside : FieldsStand (levels - 1) s (place + 3) (frame_end s place) columns.0 =
       record { ordered = omega arith; within = within; are = are; rise = tests.1 } in
       rw (← same) (fields_at (record { tagged = tag; inside = inside; some_field_lem = more }))
 
-  view_by : (t : NodeTag) → node_tag (at s place) ≡ t → node_by (node_of (levels - 1)) t (body_at s place) ≡ some node → NodeAt levels s place node
+  view_by : (t : NodeTag) → node_tag (at s place) ≡ t → node_by (node_of (levels - 1)) t (body_at s place) ≡ Some node → NodeAt levels s place node
   unfolding byte_of is_there node_by
   view_by leftover_tag is e = leftover_view (tag_byte (at s place) is) e
   view_by column_tag is e = column_view (tag_byte (at s place) is) e
@@ -196,7 +196,7 @@ module _ {levels : ℕ} {s : List ℕ} {place : ℕ} where
 
 -- ---- a node that fills a part, and a schema
 
-pub node_stands : (levels : ℕ) (s : List ℕ) (from to : ℕ) (node : Schema) → to ≤ length s → node_in levels s from to ≡ some node
+pub node_stands : (levels : ℕ) (s : List ℕ) (from to : ℕ) (node : Schema) → to ≤ length s → node_in levels s from to ≡ Some node
     → Stands levels s from node × (frame_end s from ≡ to)
 unfolding node_in
 node_stands levels s from to node within e =
@@ -204,5 +204,5 @@ node_stands levels s from to node within e =
     let fills = alone_is s from to within alone.1 in
     (record { within = omega (arith, fills.0); is = sym (ap (node_of levels) fills.1) ∙ alone.2 }, fills.0)
 
-pub schema_stands : (s : List ℕ) (node : Schema) → schema_of s ≡ some node → Stands most_levels s 0 node × (frame_end s 0 ≡ length s)
+pub schema_stands : (s : List ℕ) (node : Schema) → schema_of s ≡ Some node → Stands most_levels s 0 node × (frame_end s 0 ≡ length s)
 schema_stands s node e = node_stands most_levels s 0 (length s) node (omega arith) (schema_node s ∙ e)

@@ -1,9 +1,9 @@
 -- The frames of a schema in order of position: they lead through a node that stands to its end, and none lies between a frame
 -- and the next.
+use Rattle.std.specs.Prelude.{Some}
 use mathlib.Core.Bool.{Bool, true, false, cond}
 use mathlib.Core.List.{List}
 use mathlib.Core.Logic.{◌⊎◌, inl, inr}
-use mathlib.Core.Option.{some}
 use mathlib.Core.Path.{◌≡◌, sym, subst, ◌∙◌}
 use Prim.Native.Nat.{ℕ, ◌+◌, ◌-◌, ◌≤◌, ◌<◌}
 use native.Mathlib.Omega.{arith}
@@ -117,7 +117,7 @@ module _ (s : List ℕ) where
         (frames_join (up_to s (field_node s place) here.fills (node_frames node levels (field_node s place) here.inside))
         (fields_frames more levels (frame_end s place) to here.behind))
 
-pub schema_frames : (s : List ℕ) (node : Schema) → schema_of s ≡ some node → Frames s 0 (length s)
+pub schema_frames : (s : List ℕ) (node : Schema) → schema_of s ≡ Some node → Frames s 0 (length s)
 schema_frames s node e =
     let stands = schema_stands s node e in up_to s 0 stands.1 (node_frames s node most_levels 0 stands.0)
 

@@ -1,6 +1,6 @@
 -- A good schema is its tree written: the framing is canonical.
+use Rattle.std.specs.Prelude.{Some}
 use mathlib.Core.List.{List, [], ◌∷◌, ◌++◌}
-use mathlib.Core.Option.{some}
 use mathlib.Core.Path.{◌≡◌, sym, ap, ◌∙◌}
 use Prim.Native.Nat.{ℕ, zero, suc, ◌+◌, ◌-◌, ◌≤◌, ◌<◌}
 use native.Mathlib.Omega.{arith}
@@ -95,7 +95,7 @@ module _ (s : List ℕ) (bytes : (i : ℕ) → at s i < 256) where
         part_split s place (frame_end s place) to (omega arith) frame_in
         ∙ rw (tagged_bytes place 0x31 (frame 0x32 name ++ schema_bytes node) (omega arith) here.tagged inside, fields_written more levels (frame_end s place) to here.behind)
 
-  pub schema_written : (node : Schema) → schema_of s ≡ some node → s ≡ schema_bytes node
+  pub schema_written : (node : Schema) → schema_of s ≡ Some node → s ≡ schema_bytes node
   schema_written node e =
       let stands = schema_stands s node e in
       sym (take_all (length s - 0) s (omega arith)) ∙ ap (part s 0) (sym stands.1) ∙ node_written node most_levels 0 stands.0

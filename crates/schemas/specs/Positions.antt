@@ -1,6 +1,5 @@
 -- A schema stays bytes: nodes and fields are known by the positions where they stand.
-use Rattle.std.specs.Prelude.{Bool, true, ◌&&◌, ◌||◌, List, ◌≡◌, ℕ, ◌+◌, ◌≤◌, eqb, length}
-use Rattle.std.proofs.Math.Option.{Option, some}
+use Rattle.std.specs.Prelude.{Bool, true, ◌&&◌, ◌||◌, List, ◌≡◌, ℕ, ◌+◌, ◌≤◌, eqb, length, Option, Some}
 use Rattle.order.specs.Before.{before}
 use Rattle.paper.specs.Framing.{pieces_of, one_piece}
 use Rattle.paper.specs.Metadata.{rising}
@@ -40,11 +39,11 @@ object_in levels s from to = node_by (node_of levels) fields_tag (part s from to
 -- A node, with so many levels left, stands at a position.
 pub record Stands (levels : ℕ) (s : List ℕ) (place : ℕ) (node : Schema) : Type 0 where
   pub within : frame_end s place ≤ length s
-  pub is : node_of levels (piece_at s place) ≡ some node
+  pub is : node_of levels (piece_at s place) ≡ Some node
 
 -- Fields, their nodes with so many levels left, stand between two positions.
 pub record FieldsStand (levels : ℕ) (s : List ℕ) (from to : ℕ) (columns : SchemaFields) : Type 0 where
   pub ordered : from ≤ to
   pub within : to ≤ length s
-  pub are : columns_in levels s from to ≡ some columns
+  pub are : columns_in levels s from to ≡ Some columns
   pub rise : rising (column_names columns) ≡ true

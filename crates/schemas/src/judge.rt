@@ -13,10 +13,7 @@ fn field_within(s: &[u8], place: usize, end: usize) -> bool
     requires { (place ≤ end) × (end ≤ length s.now) }
     ensures { result ≡ field_within s.now place end }
 {
-    if !tagged_within(s, place, end, 0x31) {
-        return false;
-    }
-    tagged_within(s, place + 3, frame_end(s, place), 0x32)
+    tagged_within(s, place, end, 0x31) && tagged_within(s, place + 3, frame_end(s, place), 0x32)
 }
 
 // A field is the first one, or its name comes behind that of the field before it.
@@ -24,10 +21,7 @@ fn follows(s: &[u8], last: usize, place: usize) -> bool
     requires { (field_node s.now last ≤ length s.now) × (field_node s.now place ≤ length s.now) }
     ensures { result ≡ follows_at s.now last place }
 {
-    if last == place {
-        return true;
-    }
-    order::is_before(field_name(s, last), field_name(s, place))
+    last == place || order::is_before(field_name(s, last), field_name(s, place))
 }
 
 // A column's body is one type code.
@@ -35,10 +29,7 @@ fn column_good(s: &[u8], from: usize, to: usize) -> bool
     requires { (from ≤ to) × (to ≤ length s.now) }
     ensures { result ≡ is_there (column_of (part s.now from to)) }
 {
-    if to - from != 1 {
-        return false;
-    }
-    cells::column_code(s[from])
+    to - from == 1 && cells::column_code(s[from])
 }
 
 // An object's body: one field or more, names rising strictly.
@@ -49,6 +40,7 @@ fn fields(levels: usize, s: &[u8], from: usize, to: usize) -> bool
 {
     let mut last = from;
     let mut place = from;
+    // Frames are of many lengths, so their places are no range.
     while place < to {
         if !field_within(s, place, to) {
             return false;
@@ -82,20 +74,13 @@ fn node(levels: usize, s: &[u8], from: usize, to: usize) -> bool
     if to - body != numbers::read(s, from + 1, 2) {
         return false;
     }
-    let tag = s[from];
-    if tag == 0x00 {
-        return body == to;
+    match s[from] {
+        0x00 => body == to,
+        0x10 => column_good(s, body, to),
+        0x20 => node(levels - 1, s, body, to),
+        0x30 => fields(levels - 1, s, body, to),
+        _ => false,
     }
-    if tag == 0x10 {
-        return column_good(s, body, to);
-    }
-    if tag == 0x20 {
-        return node(levels - 1, s, body, to);
-    }
-    if tag == 0x30 {
-        return fields(levels - 1, s, body, to);
-    }
-    false
 }
 
 // A lent schema keeps its rules.

@@ -22,17 +22,12 @@ pub fn kind_at(schema: &[u8], place: usize) -> Kind
     requires { KindThere schema.now place }
     ensures { result ≡ kind_at schema.now place }
 {
-    let tag = schema[place];
-    if tag == 0x00 {
-        return Kind::Leftover;
+    match schema[place] {
+        0x00 => Kind::Leftover,
+        0x10 => Kind::Column(schema[place + 3]),
+        0x20 => Kind::List,
+        _ => Kind::Fields,
     }
-    if tag == 0x10 {
-        return Kind::Column(schema[place + 3]);
-    }
-    if tag == 0x20 {
-        return Kind::List;
-    }
-    Kind::Fields
 }
 
 // Where the node of the field at a position stands: behind the name.
@@ -59,12 +54,9 @@ pub fn next_frame(schema: &[u8], place: usize) -> usize
     requires { frame_next schema.now place ≤ length schema.now }
     ensures { result ≡ frame_next schema.now place }
 {
-    let tag = schema[place];
-    if tag == 0x31 {
-        return field_node(schema, place);
+    match schema[place] {
+        0x31 => field_node(schema, place),
+        0x10 => place + 4,
+        _ => place + 3,
     }
-    if tag == 0x10 {
-        return place + 4;
-    }
-    place + 3
 }

@@ -1,11 +1,12 @@
 -- A scalar that is its own normal form: no id is in it, so it is written as it stands, and it has no names.
+use Rattle.paper.specs.Refusals.{RowAnswer}
+use Rattle.std.specs.Prelude.{Some}
 use mathlib.Core.Bool.{Bool, true, false, cond, not, ◌&&◌, ◌||◌}
 use mathlib.Core.List.{List, [], ◌∷◌}
-use mathlib.Core.Option.{some}
 use mathlib.Core.Path.{◌≡◌, refl, sym, ap, ◌∙◌}
 use Prim.Native.Nat.{ℕ, zero, suc, ◌+◌, ◌-◌, ◌*◌, ◌/◌, ◌%◌, ◌≤◌, ◌<◌}
 use native.Mathlib.Omega.{arith}
-use borrow.Author.Tests.{eq-eqb, ne_eqb, le-ltb, lt-ltb, lt-leb, ltb-true, eqb-true}
+use borrow.Author.Tests.{eq-eqb, lt-leb, ltb-true, eqb-true}
 use lib.Dec.{leb, ltb, eqb}
 use lib.ListN.{length, get_or, drop}
 use Rattle.forms.proofs.WellFormedLaws.{decoded-well_formed}
@@ -14,13 +15,13 @@ use Rattle.handing.specs.Handing.{RowAnswered, no_names, Alone}
 use Rattle.marking.specs.Ids.{ids_by, ids_in, holds}
 use Rattle.members.proofs.OpenLaws.{no_array, no_object}
 use Rattle.normalise.specs.Answered.{Lent}
-use Rattle.dictionary.specs.declared.Names.{Names}
+use Rattle.dictionary.specs.Lent.{LentNames}
 use Rattle.paper.proofs.WordLaws.{never, and_both, there_some}
 use Rattle.numbers.specs.Little.{number_bytes, width_within, smallest_width}
 use Rattle.paper.specs.FirstBytes.{length_prefixed, payload_sizes, primitive_reading, kind_reading, reading_of}
 use Rattle.paper.specs.Limits.{most_levels, most_schema}
 use Rattle.paper.specs.Meaning.{Doc, null, scalar, array, object, Docs, Fields}
-use Rattle.paper.specs.Metadata.{Dictionary, names_in}
+use Rattle.paper.specs.Metadata.{Dictionary}
 use Rattle.paper.specs.Normal.{add_names, names_used, id_of, offsets_from, numbers_bytes, metadata_width, metadata_bytes, value_bytes}
 use Rattle.paper.specs.Operations.{row_outcome}
 use Rattle.paper.specs.Schemas.{Schema, schema_of}
@@ -28,27 +29,11 @@ use Rattle.paper.specs.Values.{meaning_by, meaning_of}
 use Rattle.paper.specs.Words.{at, is_there, joined}
 use Rattle.paper.specs.declared.Reading.TheVariants.{Fixed, Prefixed, Short, ObjectHead, ArrayHead, Nothing}
 use Rattle.paper.specs.declared.Reading.{Reading}
-use Rattle.paper.specs.declared.RowAnswer.{RowAnswer}
 use Rattle.values.proofs.ValueLaws.{whole_some}
 use Rattle.writing.proofs.MeaningLaws.{rewritten_is}
 use Rattle.writing.proofs.RewrittenLaws.{one_level}
 use Rattle.writing.specs.Rewritten.{shortened, rewritten_by, rewritten}
 use Rattle.shred.specs.Alone.{stands_alone}
-
--- ---- the tests
-
-module _ (s : List ℕ) where
-  pub no_scalar : 2 ≤ at s 0 % 4 → false ≡ stands_alone s
-  unfolding stands_alone
-  no_scalar h = rw (le-ltb (at s 0 % 4) 2 h)
-
-  pub long_string : at s 0 % 4 < 2 → at s 0 ≡ 0x40 → ltb 68 (length s) ≡ stands_alone s
-  unfolding stands_alone
-  long_string h e = rw (lt-ltb (at s 0 % 4) 2 h, eq-eqb (at s 0) 0x40 e)
-
-  pub other_scalar : at s 0 % 4 < 2 → (at s 0 ≡ 0x40 → ⊥) → true ≡ stands_alone s
-  unfolding stands_alone
-  other_scalar h e = rw (lt-ltb (at s 0 % 4) 2 h, ne_eqb (at s 0) 0x40 e)
 
 -- ---- what its first byte says
 
@@ -138,20 +123,20 @@ empty_metadata : metadata_bytes [] ≡ no_names
 unfolding number_bytes metadata_bytes metadata_width smallest_width width_within numbers_bytes offsets_from joined
 empty_metadata = refl
 
-module _ (schema : List ℕ) {metadata value : List ℕ} {names : Names} (lent : Lent metadata names value) (bytes : (i : ℕ) → get_or value i 0 < 256)
+module _ (schema : List ℕ) {names : LentNames} {value : List ℕ} (lent : Lent names value) (bytes : (i : ℕ) → get_or value i 0 < 256)
     (schema_short : length schema ≤ most_schema) (alone : stands_alone value ≡ true) where
-  module _ (node : Schema) (d : Doc) (node_is : schema_of schema ≡ some node) (means : meaning_of most_levels (names_in metadata) value ≡ some d) where
+  module _ (node : Schema) (d : Doc) (node_is : schema_of schema ≡ Some node) (means : meaning_of most_levels names.names value ≡ Some d) where
     own : value ≡ value_bytes (names_used d) d
     unfolding holds
     own =
         let short = lent.value_short in
-        let both = as_it_stands value alone (names_in metadata) lent.meant in
-        let nothing : (id : ℕ) → holds id (ids_in most_levels value) ≡ true → get_or {A = ℕ} [] id 0 ≡ id_of (names_used d) (get_or (names_in metadata) id []) =
+        let both = as_it_stands value alone names.names lent.meant in
+        let nothing : (id : ℕ) → holds id (ids_in most_levels value) ≡ true → get_or {A = ℕ} [] id 0 ≡ id_of (names_used d) (get_or names.names id []) =
         λ id held. never (sym held ∙ ap (holds id) both.0) in
-        sym both.1 ∙ rewritten_is most_levels (names_in metadata) (names_used d) [] value d means bytes (omega arith) nothing
+        sym both.1 ∙ rewritten_is most_levels names.names (names_used d) [] value d means bytes (omega arith) nothing
 
     good : well_formed most_levels d ≡ true
-    good = decoded-well_formed most_levels (names_in metadata) value d means
+    good = decoded-well_formed most_levels names.names value d means
 
     array_no : (ds : Docs) → d ≡ array ds → ⊥
     array_no =
@@ -189,11 +174,11 @@ module _ (schema : List ℕ) {metadata value : List ℕ} {names : Names} (lent :
   pub alone_known : is_there (schema_of schema) ≡ true → Alone schema value
   alone_known there =
       let node = there_some (schema_of schema) there in
-      let d = there_some (meaning_of most_levels (names_in metadata) value) lent.meant in
+      let d = there_some (meaning_of most_levels names.names value) lent.meant in
       alone_as node.0 d.0 node.1 d.1
 
 -- A lawful value has a first byte.
-pub value_begins : {metadata value : List ℕ} {names : Names} → Lent metadata names value → 1 ≤ length value
-value_begins {metadata} {value} lent =
-    let level = one_level most_levels (names_in metadata) [] value lent.meant in
+pub value_begins : {names : LentNames} {value : List ℕ} → Lent names value → 1 ≤ length value
+value_begins {names} {value} lent =
+    let level = one_level most_levels names.names [] value lent.meant in
     omega (arith, whole_some value level.fills)

@@ -1,3 +1,2 @@
 -- A document to be shredded.
-pub mod Scratch
 pub mod Alone

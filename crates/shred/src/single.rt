@@ -8,18 +8,13 @@ ghost use Rattle.shred.specs.Alone.{stands_alone};
 use paper::RowAnswer;
 
 // A value is a scalar, and its own normal form: any but a string of at most 63 bytes that has its length in front.
+#[tactic(auto, unfolding(crate::specs::Alone::stands_alone))]
 pub fn stands_alone(value: &[u8]) -> bool
     requires { 1 ≤ length value.now }
     ensures { result ≡ stands_alone value.now }
 {
     let first = value[0];
-    if 2 <= first % 4 {
-        return false;
-    }
-    if first == 0x40 {
-        return 68 < value.len();
-    }
-    true
+    first % 4 < 2 && (first != 0x40 || 68 < value.len())
 }
 
 // Its row, by way of a room that goes by its length.

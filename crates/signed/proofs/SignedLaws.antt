@@ -73,49 +73,15 @@ signed_back w (negsuc n) h =
     let mirror : 256 ^ suc w - 1 - (256 ^ suc w - 1 - n) ≡ n = omega arith in
     rw (held, le-ltb (2 * (256 ^ suc w - 1 - n)) (256 ^ suc w) upper, mirror)
 
--- ---- a machine word's sign, and the number that its eight bytes hold
+-- ---- the number that the eight bytes of a machine word hold
 
-module _ (z : ℤ) (fits : SFits w64 z) where
-  -- z, as the machine hands it on
-  abbrev pub handed : ℤ
-  handed = to_z w64 (of_z w64 z)
-
-  pub record Whole (n : ℕ) : Type 0 where
-    pub is : handed ≡ pos n
-    pub small : n < 2 ^ 63
-    pub holds : number (signed_bytes 8 z) ≡ n
-
-  pub record Below (n : ℕ) : Type 0 where
-    pub fits_back : SFits w64 (negsuc 0 -ℤ handed)
-    pub is : to_z w64 (of_z w64 (negsuc 0 -ℤ handed)) ≡ pos n
-    pub small : n < 2 ^ 63
-    pub holds : number (signed_bytes 8 z) ≡ 2 ^ 64 - 1 - n
-
-pub whole : (z : ℤ) (fits : SFits w64 z) → le_z (pos 0) (to_z w64 (of_z w64 z)) ≡ true → (n : ℕ) × Whole z fits n
+pub held_by_eight : (z : ℤ) → SFits w64 z → of_z w64 z ≡ number (signed_bytes 8 z)
 unfolding signed_bytes
-whole (pos n) fits sign =
+held_by_eight (pos n) fits = let small : n < 2 ^ 63 = fits.sfits in sym (read_back 8 n (omega arith))
+held_by_eight (negsuc n) fits =
     let small : n < 2 ^ 63 = fits.sfits in
-    (n, record { is = to_z-of_z fits; small = small; holds = read_back 8 n (omega arith) })
-whole (negsuc n) fits sign =
-    let never : true ≡ false = sym sign ∙ ap (le_z (pos 0)) (to_z-of_z fits) in
-    absurd (let z : ◌≡◌ {A = ℕ} 0 1 = cc in omega arith)
-
-pub below : (z : ℤ) (fits : SFits w64 z) → le_z (pos 0) (to_z w64 (of_z w64 z)) ≡ false → (n : ℕ) × Below z fits n
-unfolding signed_bytes
-below (pos n) fits sign =
-    let never : true ≡ false = sym (le-leb 0 n (omega arith)) ∙ sym (ap (le_z (pos 0)) (to_z-of_z fits)) ∙ sign in
-    absurd (let z : ◌≡◌ {A = ℕ} 0 1 = cc in omega arith)
-below (negsuc n) fits sign =
-    let small : n < 2 ^ 63 = fits.sfits in
-    let back : SFits w64 (negsuc 0 -ℤ to_z w64 (of_z w64 (negsuc n))) = rw (to_z-of_z fits, above_zero n) (record { sfits = small }) in (
-      n,
-      record {
-        fits_back = back;
-        is = to_z-of_z back ∙ rw (to_z-of_z fits) (above_zero n);
-        small = small;
-        holds = ap number (sym (complement_bytes 8 8 n (omega arith) (omega arith))) ∙ read_back 8 (2 ^ 64 - 1 - n) (omega arith);
-      },
-    )
+    let same : 2 ^ 64 - suc n ≡ 2 ^ 64 - 1 - n = omega arith in
+    same ∙ sym (ap number (sym (complement_bytes 8 8 n (omega arith) (omega arith))) ∙ read_back 8 (2 ^ 64 - 1 - n) (omega arith))
 
 -- The w lowest bytes of that number are the bytes of z.
 lowest_bytes : (w : ℕ) (z : ℤ) → w ≤ 8 → mag z < 2 ^ 63 → number_bytes w (number (signed_bytes 8 z)) ≡ signed_bytes w z

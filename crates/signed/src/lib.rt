@@ -44,11 +44,7 @@ fn signed(n: u64, width: usize) -> i64
 pub fn unsigned(z: i64) -> u64
     ensures { result ≡ number (signed_bytes 8 z) }
 {
-    if 0 <= z {
-        return z as u64;
-    }
-    let below = (-1 - z) as u64;
-    18446744073709551615 - below
+    z.cast_unsigned()
 }
 
 // The signed number of `width` bytes, one to four or eight, at a place.

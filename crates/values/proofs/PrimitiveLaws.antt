@@ -1,7 +1,7 @@
 -- A primitive of fixed size is lawful unless it is a decimal whose scale byte passes 38; a decimal has a scale byte.
+use Rattle.std.specs.Prelude.{Option, None, Some}
 use mathlib.Core.Bool.{Bool, true, not, ◌&&◌, ◌||◌, and-true}
 use mathlib.Core.List.{List}
-use mathlib.Core.Option.{Option, none, some, some-injective}
 use mathlib.Core.Path.{◌≡◌, refl, sym, ap, ◌∙◌}
 use Prim.Native.Nat.{ℕ, zero, suc, ◌+◌, ◌≤◌, ◌<◌}
 use native.Mathlib.Omega.{arith}
@@ -18,6 +18,7 @@ use Rattle.heads.proofs.HeadLaws.{extent_some}
 use Rattle.heads.proofs.ReadingLaws.{fixed_sizes}
 use Rattle.numbers.proofs.Table.{entry}
 use Rattle.paper.proofs.WordLaws.{never, there_given}
+use Rattle.std.proofs.lemmas.Option.{same_Some}
 
 primitive_verdict : (code : ℕ) (s : List ℕ) → is_there (primitive_meaning code s) ≡ not (leb 8 code && leb code 10) || leb (at s 0) 38
 unfolding primitive_meaning is_there
@@ -25,7 +26,7 @@ primitive_verdict zero s = refl
 primitive_verdict (suc zero) s = refl
 primitive_verdict (suc (suc zero)) s = refl
 primitive_verdict (suc (suc (suc more))) s =
-    there_given (not (leb 8 (suc (suc (suc more))) && leb (suc (suc (suc more))) 10) || leb (at s 0) 38) (some (scalar (payload (suc (suc (suc more))) s)))
+    there_given (not (leb 8 (suc (suc (suc more))) && leb (suc (suc (suc more))) 10) || leb (at s 0) 38) (Some (scalar (payload (suc (suc (suc more))) s)))
     ∙ and-true (not (leb 8 (suc (suc (suc more))) && leb (suc (suc (suc more))) 10) || leb (at s 0) 38)
 
 pub primitive_plain : (code : ℕ) (s : List ℕ) → not (leb 8 code && leb code 10) ≡ true → is_there (primitive_meaning code s) ≡ true
@@ -43,13 +44,13 @@ module _ (code : ℕ) (s : List ℕ) where
 
 -- ---- a decimal has a scale byte
 
-pub whole_extent : (s : List ℕ) → whole s ≡ true → extent s ≡ some (length s)
+pub whole_extent : (s : List ℕ) → whole s ≡ true → extent s ≡ Some (length s)
 unfolding whole ends_at
 whole_extent s e = go (extent s) e
   where
-    go : (x : Option ℕ) → ends_at x (length s) ≡ true → x ≡ some (length s)
-    go none f = never (sym f)
-    go (some n) f = ap some (eqb-true n (length s) f)
+    go : (x : Option ℕ) → ends_at x (length s) ≡ true → x ≡ Some (length s)
+    go None f = never (sym f)
+    go (Some n) f = ap Some (eqb-true n (length s) f)
 
 decimal_size : (code : ℕ) → 8 ≤ code → code ≤ 10 → 5 ≤ get_or payload_sizes code 0
 unfolding payload_sizes length_prefixed
@@ -65,8 +66,8 @@ pub scale_there : (code size : ℕ) (s : List ℕ) → whole s ≡ true → read
 unfolding extent_by
 scale_there code size s e f h k =
     let has = extent_some s (whole_extent s e) in
-    let by : some (1 + size) ≡ some (length s) = rw f at has.1 in
-    let fills : 1 + size ≡ length s = some-injective (1 + size) (length s) by in
+    let by : Some (1 + size) ≡ Some (length s) = rw f at has.1 in
+    let fills : 1 + size ≡ length s = same_Some (1 + size) (length s) by in
     let is : size ≡ get_or payload_sizes code 0 = (fixed_sizes (at s 0) f).2 in
     let least : 5 ≤ get_or payload_sizes code 0 = decimal_size code h k in
     omega arith

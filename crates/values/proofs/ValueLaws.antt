@@ -1,7 +1,7 @@
 -- What a value comes to, by the reading of its first byte.
+use Rattle.std.specs.Prelude.{Option, None, Some}
 use mathlib.Core.Bool.{Bool, true, false, not, ◌&&◌}
 use mathlib.Core.List.{List}
-use mathlib.Core.Option.{Option, none, some}
 use mathlib.Core.Path.{◌≡◌, refl, sym, ap, ◌∙◌}
 use Prim.Native.Nat.{ℕ, zero, suc, ◌-◌, ◌≤◌, ◌<◌}
 use native.Mathlib.Omega.{arith}
@@ -10,13 +10,15 @@ use lib.ListN.{length, drop}
 use Rattle.paper.specs.Bounds.{most_walked}
 use Rattle.paper.proofs.MeaningLaws.{string_there, prefixed_there}
 use Rattle.paper.specs.FirstBytes.{reading_of}
+use Rattle.paper.specs.Meaning.{Doc}
 use Rattle.paper.specs.Metadata.{Dictionary, rising}
-use Rattle.paper.specs.Values.{Child, children_at, primitive_meaning, meaning_by, meaning_of, area_of, starts_of, ids_of, names_at, whole, extent_by}
+use Rattle.paper.specs.Values.{children_at, primitive_meaning, meaning_by, meaning_of, area_of, starts_of, ids_of, names_at, whole, extent_by}
+use Rattle.paper.specs.declared.Child.{Child}
 use Rattle.paper.specs.Words.{at, is_there, all_below}
 use Rattle.paper.specs.declared.Reading.TheVariants.{Fixed, Prefixed, Short, ObjectHead, ArrayHead, Nothing}
 use Rattle.paper.specs.declared.Reading.{Reading}
 use Rattle.containers.specs.Children.{once_in, tiled_in}
-use Rattle.containers.specs.Layouts.{Container}
+use Rattle.containers.specs.Layouts.{HeadThere}
 use Rattle.values.specs.Insides.{insides_good}
 use Rattle.heads.proofs.HeadLaws.{extent_some}
 use Rattle.heads.proofs.ReadingLaws.{object_sizes, array_sizes}
@@ -40,13 +42,13 @@ kept false f = never f
 -- Children that lie as they must are there.
 tiled_there : (end : ℕ) (K : Option (List Child)) → tiled_in end K ≡ true → is_there K ≡ true
 unfolding tiled_in is_there
-tiled_there end none e = e
-tiled_there end (some children) e = refl
+tiled_there end None e = e
+tiled_there end (Some children) e = refl
 
 once_there : (end : ℕ) (K : Option (List Child)) → once_in end K ≡ true → is_there K ≡ true
 unfolding once_in is_there
-once_there end none e = e
-once_there end (some children) e = refl
+once_there end None e = e
+once_there end (Some children) e = refl
 
 regroup : (x y z : Bool) → x && (y && z) ≡ (x && y) && z
 regroup true y z = refl
@@ -65,7 +67,7 @@ module _ (s : List ℕ) (fills : whole s ≡ true) (r : Reading) (told : r ≡ r
   pub fixed_asks : (code size : ℕ) → r ≡ Fixed code size → (whole s ≡ true) × (reading_of (at s 0) ≡ Fixed code size)
   fixed_asks code size e = (fills, sym told ∙ e)
 
-  pub array_container : (c w : ℕ) → r ≡ ArrayHead c w → length s ≤ most_walked → Container s c 0 w
+  pub array_container : (c w : ℕ) → r ≡ ArrayHead c w → length s ≤ most_walked → HeadThere s c 0 w
   unfolding extent_by
   array_container c w e small =
       let sizes = array_sizes (at s 0) (sym told ∙ e) in
@@ -79,7 +81,7 @@ module _ (s : List ℕ) (fills : whole s ≡ true) (r : Reading) (told : r ≡ r
         small = small;
       }
 
-  pub object_container : (c i w : ℕ) → r ≡ ObjectHead c i w → length s ≤ most_walked → Container s c i w
+  pub object_container : (c i w : ℕ) → r ≡ ObjectHead c i w → length s ≤ most_walked → HeadThere s c i w
   unfolding extent_by
   object_container c i w e small =
       let sizes = object_sizes (at s 0) (sym told ∙ e) in
@@ -190,3 +192,25 @@ module _ (levels : ℕ) (names : Dictionary) (s : List ℕ) (some_left : levels 
             → q ≡ insides_good (meaning_of (levels - 1) names) (area_of c i w s) (children_at (area_of c i w s) (starts_of c i w s))
             → q ≡ is_there (meaning_of levels names s)
         value_object f q g = sym (object_grouped ∙ rw (← lies, ← g) (true_first b _ f))
+
+-- ---- what was said of an opened container is said of its bytes
+
+module _ (names : Dictionary) (s : List ℕ) (c i w : ℕ) {ids starts area : List ℕ} (same_ids : ids ≡ ids_of c i s) (same_starts : starts ≡ starts_of c i w s)
+    (same_area : area ≡ area_of c i w s) where
+  pub object_said : {b : Bool}
+      → b ≡ (all_below (length names) ids && rising (names_at names ids)) && once_in (length area) (children_at area starts)
+      → b ≡ (all_below (length names) (ids_of c i s) && rising (names_at names (ids_of c i s)))
+      && once_in (length (area_of c i w s)) (children_at (area_of c i w s) (starts_of c i w s))
+  object_said told = told ∙ rw (same_ids, same_starts, same_area)
+
+module _ (s : List ℕ) (c i w : ℕ) {starts area : List ℕ} (same_starts : starts ≡ starts_of c i w s) (same_area : area ≡ area_of c i w s) where
+  pub array_said : {b : Bool} → b ≡ tiled_in (length area) (children_at area starts)
+      → b ≡ tiled_in (length (area_of c i w s)) (children_at (area_of c i w s) (starts_of c i w s))
+  array_said told = told ∙ rw (same_starts, same_area)
+
+  pub children_said : is_there (children_at (area_of c i w s) (starts_of c i w s)) ≡ true → is_there (children_at area starts) ≡ true
+  children_said there = rw (same_starts, same_area) there
+
+  pub insides_said : (inner : List ℕ → Option Doc) {b : Bool} → b ≡ insides_good inner area (children_at area starts)
+      → b ≡ insides_good inner (area_of c i w s) (children_at (area_of c i w s) (starts_of c i w s))
+  insides_said inner told = told ∙ rw (same_starts, same_area)

@@ -1,15 +1,16 @@
 -- When a container is lawful: an array when its children lie end to end and are lawful inside, an object when its names
 -- rise, every byte of its area is in exactly one child and the children are lawful inside.
+use Rattle.std.specs.Prelude.{Option, None, Some}
 use mathlib.Core.Bool.{Bool, true, false, ◌&&◌}
 use mathlib.Core.List.{List, [], ◌∷◌}
-use mathlib.Core.Option.{Option, none, some}
 use mathlib.Core.Path.{◌≡◌, refl, sym, ap, ◌∙◌}
 use Prim.Native.Nat.{ℕ}
 use native.Mathlib.Omega.{arith}
 use lib.ListN.{length, length-map}
 use Rattle.paper.specs.Meaning.{Doc, Docs, doc, Fields, field, array, object}
 use Rattle.paper.specs.Metadata.{Dictionary, rising}
-use Rattle.paper.specs.Values.{Child, children_at, end_to_end, every_byte_once, element_docs, member_docs, child_bytes, elements_of, members_of, area_of, starts_of, ids_of, names_at, meaning_by}
+use Rattle.paper.specs.Values.{children_at, end_to_end, every_byte_once, element_docs, member_docs, child_bytes, elements_of, members_of, area_of, starts_of, ids_of, names_at, meaning_by}
+use Rattle.paper.specs.declared.Child.{Child}
 use Rattle.paper.specs.Words.{given, and_then, is_there, all_below}
 use Rattle.paper.specs.declared.Reading.TheVariants.{ObjectHead, ArrayHead}
 use Rattle.containers.specs.Children.{once_in, tiled_in}
@@ -26,10 +27,10 @@ there_elements inner area [] = refl
 there_elements inner area (child ∷ more) = go (inner (child_bytes area child)) (element_docs inner area more) (there_elements inner area more)
   where
     go : (x : Option Doc) (rest : Option Docs) → is_there rest ≡ all_good inner area more
-        → is_there (and_then x λ d. and_then rest λ ds. some (doc d ds)) ≡ is_there x && all_good inner area more
-    go none rest e = refl
-    go (some d) none e = e
-    go (some d) (some ds) e = e
+        → is_there (and_then x λ d. and_then rest λ ds. Some (doc d ds)) ≡ is_there x && all_good inner area more
+    go None rest e = refl
+    go (Some d) None e = e
+    go (Some d) (Some ds) e = e
 
 there_members : (inner : List ℕ → Option Doc) (area : List ℕ) (names : List (List ℕ)) (children : List Child) → length names ≡ length children
     → is_there (member_docs inner area names children) ≡ all_good inner area children
@@ -41,10 +42,10 @@ there_members inner area (name ∷ names) (child ∷ more) e =
     go (inner (child_bytes area child)) (member_docs inner area names more) (there_members inner area names more (omega arith))
   where
     go : (x : Option Doc) (rest : Option Fields) → is_there rest ≡ all_good inner area more
-        → is_there (and_then x λ d. and_then rest λ fs. some (field name d fs)) ≡ is_there x && all_good inner area more
-    go none rest e = refl
-    go (some d) none e = e
-    go (some d) (some fs) e = e
+        → is_there (and_then x λ d. and_then rest λ fs. Some (field name d fs)) ≡ is_there x && all_good inner area more
+    go None rest e = refl
+    go (Some d) None e = e
+    go (Some d) (Some fs) e = e
 
 -- ---- the verdicts
 
@@ -64,17 +65,17 @@ module _ (inner : List ℕ → Option Doc) (names : Dictionary) (s : List ℕ) w
       starts = starts_of c 0 w s
 
       inside : (children : List Child) (t : Bool)
-          → is_there (and_then (given t (some children)) λ cs. and_then (element_docs inner area cs) λ ds. some (array ds)) ≡ t && all_good inner area children
-      inside children true = there_then (element_docs inner area children) (λ ds. some (array ds)) (λ ds. refl) ∙ there_elements inner area children
+          → is_there (and_then (given t (Some children)) λ cs. and_then (element_docs inner area cs) λ ds. Some (array ds)) ≡ t && all_good inner area children
+      inside children true = there_then (element_docs inner area children) (λ ds. Some (array ds)) (λ ds. refl) ∙ there_elements inner area children
       inside children false = refl
 
       go : (K : Option (List Child)) (b : Bool) → (is_there K ≡ true → b ≡ true)
-          → is_there (and_then (given b (and_then K λ children. given (end_to_end 0 (length area) children) (some children))) λ cs. and_then (element_docs inner area cs) λ ds. some (array ds))
+          → is_there (and_then (given b (and_then K λ children. given (end_to_end 0 (length area) children) (Some children))) λ cs. and_then (element_docs inner area cs) λ ds. Some (array ds))
           ≡ tiled_in (length area) K && insides_good inner area K
-      go none true below = refl
-      go none false below = refl
-      go (some children) false below = never (sym (below refl))
-      go (some children) true below = inside children (end_to_end 0 (length area) children)
+      go None true below = refl
+      go None false below = refl
+      go (Some children) false below = never (sym (below refl))
+      go (Some children) true below = inside children (end_to_end 0 (length area) children)
 
   pub object_verdict : (c i w : ℕ) → length (ids_of c i s) ≡ length (starts_of c i w s)
       → is_there (meaning_by inner names (ObjectHead c i w) s)
@@ -96,18 +97,18 @@ module _ (inner : List ℕ → Option Doc) (names : Dictionary) (s : List ℕ) w
       field_names = names_at names (ids_of c i s)
 
       inside : (children : List Child) (t : Bool) → length children ≡ length starts
-          → is_there (and_then (given t (some children)) λ cs. and_then (member_docs inner area field_names cs) λ fs. some (object fs)) ≡ t && all_good inner area children
+          → is_there (and_then (given t (Some children)) λ cs. and_then (member_docs inner area field_names cs) λ fs. Some (object fs)) ≡ t && all_good inner area children
       inside children true e =
-          there_then (member_docs inner area field_names children) (λ fs. some (object fs)) (λ fs. refl)
+          there_then (member_docs inner area field_names children) (λ fs. Some (object fs)) (λ fs. refl)
           ∙ there_members inner area field_names children (length-map (ids_of c i s) (λ (id : ℕ). lib.ListN.get_or names id []) ∙ same ∙ sym e)
       inside children false e = refl
 
       go : (K : Option (List Child)) (b t : Bool) → (is_there K ≡ true → b ≡ true) → SizedIn area starts K
-          → is_there (and_then (given t (given b (and_then K λ children. given (every_byte_once (length area) children) (some children)))) λ cs. and_then (member_docs inner area field_names cs) λ fs. some (object fs))
+          → is_there (and_then (given t (given b (and_then K λ children. given (every_byte_once (length area) children) (Some children)))) λ cs. and_then (member_docs inner area field_names cs) λ fs. Some (object fs))
           ≡ t && (once_in (length area) K && insides_good inner area K)
       go K b false below sized = refl
-      go none true true below sized = refl
-      go none false true below sized = refl
-      go (some children) false true below sized = never (sym (below refl))
-      go (some children) true true below sized = inside children (every_byte_once (length area) children)
+      go None true true below sized = refl
+      go None false true below sized = refl
+      go (Some children) false true below sized = never (sym (below refl))
+      go (Some children) true true below sized = inside children (every_byte_once (length area) children)
           (sym (length-map children (λ (child : Child). child.start)) ∙ ap length sized.1)

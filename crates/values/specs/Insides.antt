@@ -1,12 +1,12 @@
 -- What the walker's inner functions answer of the insides of a container's children, in terms of the definitions of 01's
 -- values.
-use Rattle.std.specs.Prelude.{Bool, true, false, not, ◌&&◌, List, [], ◌∷◌, ℕ, leb}
-use Rattle.std.proofs.Math.Option.{Option, none, some}
+use Rattle.std.specs.Prelude.{Bool, true, false, not, ◌&&◌, List, [], ◌∷◌, ℕ, leb, Option, None, Some}
 use Rattle.paper.specs.declared.Reading.{Reading}
 use Rattle.paper.specs.declared.Reading.TheVariants.{Fixed, Prefixed, Short, ObjectHead, ArrayHead, Nothing}
 use Rattle.paper.specs.Words.{is_there, and_then}
 use Rattle.paper.specs.Meaning.{Doc}
-use Rattle.paper.specs.Values.{Child, child_extent, child_bytes}
+use Rattle.paper.specs.Values.{child_extent, child_bytes}
+use Rattle.paper.specs.declared.Child.{Child}
 
 -- A value of this reading has nothing inside that could break a rule: only a decimal's scale and a container's children
 -- are judged beyond their lengths.
@@ -29,5 +29,5 @@ all_good inner area [] = true
 all_good inner area (child ∷ more) = is_there (inner (child_bytes area child)) && all_good inner area more
 
 unfoldable pub insides_good : (List ℕ → Option Doc) → List ℕ → Option (List Child) → Bool
-insides_good inner area none = false
-insides_good inner area (some children) = all_good inner area children
+insides_good inner area None = false
+insides_good inner area (Some children) = all_good inner area children

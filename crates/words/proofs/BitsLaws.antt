@@ -1,8 +1,8 @@
 -- The cell reader never hands out a NaN as a number, so that the bits of what it hands out can be had; and a float's or a
 -- double's pattern, of a NaN too, is the first word of its cell.
+use Rattle.std.specs.Prelude.{Option, None, Some, Ok}
 use mathlib.Core.Bool.{Bool, true, false, not, cond}
 use mathlib.Core.List.{List, [], ◌∷◌}
-use mathlib.Core.Option.{Option, none, some}
 use mathlib.Core.Path.{◌≡◌, refl, sym, ap, ◌∙◌}
 use Prim.Native.Nat.{ℕ, ◌*◌, ◌<◌}
 use lib.Dec.{eqb, leb}
@@ -13,8 +13,8 @@ use Rattle.paper.specs.Answers.{cell_values}
 use Rattle.paper.specs.Cells.{cell_meaning, number_cell, handed_out}
 use Rattle.paper.specs.Limits.{most_cell}
 use Rattle.paper.specs.Meaning.{Scalar, boolean, payload, text}
-use Rattle.paper.specs.Operations.{cell_outcome, cell_read_by, cell_answer}
-use Rattle.paper.specs.Refusals.{reached, require, obtain}
+use Rattle.paper.specs.Operations.{cell_answer}
+use Rattle.paper.specs.Refusals.{require, obtain}
 use Rattle.paper.specs.Schemas.{Column, column_of}
 use Rattle.paper.specs.Words.{at}
 use Rattle.paper.specs.declared.Cell.{Cell}
@@ -55,17 +55,17 @@ handed-has_bits (payload type s) = either (eqb type 15) _ _ refl λ _. number-ha
 handed-has_bits (text s) = refl
 
 pub answer_has_bits_lem : (code : ℕ) (s : List ℕ) → answer_has_bits (cell_answer code s) ≡ true
-unfolding cell_answer cell_read_by cell_outcome require obtain
+unfolding cell_answer require obtain
 answer_has_bits_lem code s = go (leb (length s) most_cell) (column_of (code ∷ []))
   where
-    read : (meaning : Option Scalar) → answer_has_bits (cell_read_by (obtain meaning BadRow λ value. reached (handed_out value))) ≡ true
-    read none = refl
-    read (some value) = handed-has_bits value
+    read : (meaning : Option Scalar) → answer_has_bits ((obtain meaning BadRow λ value. Ok (handed_out value))) ≡ true
+    read None = refl
+    read (Some value) = handed-has_bits value
 
     go : (short : Bool) (known : Option Column)
-        → answer_has_bits (cell_read_by (require short TooLong
-        (obtain known BadSchema λ column. obtain (cell_meaning column s) BadRow λ value. reached (handed_out value))))
+        → answer_has_bits ((require short TooLong
+        (obtain known BadSchema λ column. obtain (cell_meaning column s) BadRow λ value. Ok (handed_out value))))
         ≡ true
     go false known = refl
-    go true none = refl
-    go true (some column) = read (cell_meaning column s)
+    go true None = refl
+    go true (Some column) = read (cell_meaning column s)

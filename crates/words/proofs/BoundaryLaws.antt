@@ -1,11 +1,10 @@
 -- A word: that each of its parts is read back from its bits, as the header's macros do, and that it fits 64 bits.
-use mathlib.Core.Bool.{Bool, true, false, cond, ◌&&◌}
-use mathlib.Core.Path.{◌≡◌, refl}
-use Prim.Native.Nat.{ℕ, ◌/◌, ◌%◌, ◌^◌, ◌≤◌, ◌<◌}
+use mathlib.Core.Bool.{true, ◌&&◌}
+use mathlib.Core.Path.{◌≡◌}
+use Prim.Native.Nat.{ℕ, ◌/◌, ◌%◌, ◌^◌, ◌<◌}
 use native.Mathlib.Omega.{arith}
 use borrow.Author.Tests.{ltb-true}
 use lib.Dec.{ltb}
-use mir.Val.{bool_byte}
 use Rattle.paper.specs.Answers.{Carried, done, absent, refusal, short, number_of, present_of}
 use Rattle.paper.specs.Refusals.{refusal_number}
 use Rattle.paper.specs.declared.Refusal.TheVariants.{TooLong, BadMetadata, BadValue, BadSchema, BadPath, BadRow, BrokenRule, TooLarge}
@@ -13,17 +12,8 @@ use Rattle.paper.specs.declared.Refusal.{Refusal}
 use Rattle.words.specs.Boundary.{word, part, word_with, has_room}
 use Rattle.paper.proofs.WordLaws.{and_both}
 
--- A flag as the code makes it is 0 or 1.
-pub flag : (present : Bool) → bool_byte present ≡ cond present 1 0
-flag true = refl
-flag false = refl
-
-pub flag_small : (present : Bool) → bool_byte present ≤ 1
-flag_small true = omega arith
-flag_small false = omega arith
-
 -- Two parts that are tested to have room.
-pub parts_fit : (first second : ℕ) → ltb first (2 ^ 24) && ltb second (2 ^ 24) ≡ true → (first < 2 ^ 24) × (second < 2 ^ 24)
+parts_fit : (first second : ℕ) → ltb first (2 ^ 24) && ltb second (2 ^ 24) ≡ true → (first < 2 ^ 24) × (second < 2 ^ 24)
 parts_fit first second e =
     let both = and_both (ltb first (2 ^ 24)) (ltb second (2 ^ 24)) e in
     (ltb-true first (2 ^ 24) both.0, ltb-true second (2 ^ 24) both.1)

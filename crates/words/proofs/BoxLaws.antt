@@ -1,43 +1,24 @@
 -- A box that was read has no NaN for a side, since a NaN is in no order: the bits of each side can be had.
+use Rattle.std.specs.Prelude.{Option, None, Some, Ok}
 use mathlib.Core.Bool.{Bool, true, false, not, ◌&&◌}
 use mathlib.Core.List.{List}
-use mathlib.Core.Option.{Option, none, some}
-use mathlib.Core.Path.{◌≡◌, refl, sym, ap, ◌∙◌}
+use mathlib.Core.Path.{◌≡◌, refl, sym}
 use Prim.Native.Nat.{ℕ}
-use lib.Dec.{T}
-use lib.Ieee.{Float, nan, inf, fin, le, lt, eq, is_nan, to_bits, binary64}
+use lib.Ieee.{Float, nan, inf, fin, le, lt, eq, is_nan}
 use Rattle.paper.specs.Boxes.{box_in, box_of, side as side_in, east, north, south, west}
 use Rattle.paper.specs.Limits.{most_levels}
 use Rattle.paper.specs.Meaning.{Doc, null, scalar, array, object}
 use Rattle.paper.specs.Metadata.{Dictionary, dictionary_of}
-use Rattle.paper.specs.Operations.{judged, document_fits, box_outcome, box_read_by, box_answer, value_judged}
-use Rattle.paper.specs.Refusals.{reached, require, obtain}
+use Rattle.paper.specs.Operations.{judged, document_fits, box_answer, value_judged}
+use Rattle.paper.specs.Refusals.{require, obtain}
 use Rattle.paper.specs.Values.{meaning_of}
 use Rattle.paper.specs.Words.{given, and_then}
-use Rattle.paper.specs.declared.BoxAnswer.TheVariants.{Read}
-use Rattle.paper.specs.declared.BoxAnswer.{BoxAnswer}
 use Rattle.paper.specs.declared.LotBox.{LotBox}
 use Rattle.paper.specs.declared.Refusal.TheVariants.{TooLong, BadMetadata, BadValue}
-use Rattle.words.specs.BoxParts.{side_of, side_word, side_has_bits}
+use Rattle.words.specs.BoxParts.{side_of, side_has_bits}
 use Rattle.words.specs.declared.boxes.Side.TheVariants.{East, North, South, West}
 use Rattle.words.specs.declared.boxes.Side.{Side}
 use Rattle.paper.proofs.WordLaws.{never, and_both}
-use denote.Floats.{passes}
-
--- x is the side that was read: it is no NaN where its bits can be had, and r is its bits.
-pub side_number : (side : Side) (answer : BoxAnswer) (b : LotBox) → answer ≡ Read b → side_has_bits side answer ≡ true → (x : Float) → x ≡ side_of side b
-    → T (not (is_nan x))
-side_number side answer b read has x is = passes (not (is_nan x)) (ap (λ (y : Float). not (is_nan y)) is ∙ (rw read at has))
-
-pub side_bits : (side : Side) (answer : BoxAnswer) (b : LotBox) → answer ≡ Read b → (x : Float) → x ≡ side_of side b → (r : ℕ) → r ≡ to_bits binary64 x
-    → r ≡ side_word side answer
-side_bits side answer b read x is r bits = bits ∙ ap (to_bits binary64) is ∙ rw read (value side)
-  where
-    value : (side : Side) → to_bits binary64 (side_of side b) ≡ side_word side (Read b)
-    value East = refl
-    value North = refl
-    value South = refl
-    value West = refl
 
 -- What is in order is no NaN.
 in_order : (x y : Float) → le x y ≡ true → (not (is_nan x) ≡ true) × (not (is_nan y) ≡ true)
@@ -51,8 +32,8 @@ in_order (fin s m d) (inf t) e = (refl, refl)
 in_order (fin s m d) (fin t n f) e = (refl, refl)
 
 module _ (side : Side) where
-  of_four : (e n s w : Float) → side_has_bits side (box_read_by (reached (given (le w e && le s n) (some (record { east = e; north = n; south = s; west = w }))))) ≡ true
-  unfolding given box_read_by
+  of_four : (e n s w : Float) → side_has_bits side ((Ok (given (le w e && le s n) (Some (record { east = e; north = n; south = s; west = w }))))) ≡ true
+  unfolding given
   of_four e n s w = go (le w e && le s n) refl
     where
       number : (side : Side) → not (is_nan e) ≡ true → not (is_nan n) ≡ true → not (is_nan s) ≡ true → not (is_nan w) ≡ true
@@ -63,7 +44,7 @@ module _ (side : Side) where
       number West p q r t = t
 
       go : (b : Bool) → le w e && le s n ≡ b
-          → side_has_bits side (box_read_by (reached (given b (some (record { east = e; north = n; south = s; west = w }))))) ≡ true
+          → side_has_bits side ((Ok (given b (Some (record { east = e; north = n; south = s; west = w }))))) ≡ true
       go false is = refl
       go true is =
           let both = and_both (le w e) (le s n) is in
@@ -72,14 +53,14 @@ module _ (side : Side) where
           number side across.1 along.1 along.0 across.0
 
   -- Where nothing is to be read on the way there is no box.
-  on : {A : Type 0} (x : Option A) (next : A → Option LotBox) → ((a : A) → side_has_bits side (box_read_by (reached (next a))) ≡ true)
-      → side_has_bits side (box_read_by (reached (and_then x next))) ≡ true
-  unfolding and_then box_read_by
-  on none next good = refl
-  on (some a) next good = good a
+  on : {A : Type 0} (x : Option A) (next : A → Option LotBox) → ((a : A) → side_has_bits side ((Ok (next a))) ≡ true)
+      → side_has_bits side ((Ok (and_then x next))) ≡ true
+  unfolding and_then
+  on None next good = refl
+  on (Some a) next good = good a
 
-  of_doc : (d : Doc) → side_has_bits side (box_read_by (reached (box_of d))) ≡ true
-  unfolding box_of box_in box_read_by
+  of_doc : (d : Doc) → side_has_bits side ((Ok (box_of d))) ≡ true
+  unfolding box_of box_in
   of_doc null = refl
   of_doc (scalar s) = refl
   of_doc (array ds) = refl
@@ -87,15 +68,15 @@ module _ (side : Side) where
       on (side_in east fs) _ λ e. on (side_in north fs) _ λ n. on (side_in south fs) _ λ s. on (side_in west fs) _ λ w. of_four e n s w
 
   pub side_has_bits_lem : (m v : List ℕ) → side_has_bits side (box_answer m v) ≡ true
-  unfolding box_answer box_outcome judged value_judged require obtain box_read_by
+  unfolding box_answer judged value_judged require obtain
   side_has_bits_lem m v = go (document_fits m v) (dictionary_of m)
     where
-      inner : (x : Option Doc) → side_has_bits side (box_read_by (obtain x BadValue λ d. reached (box_of d))) ≡ true
-      inner none = refl
-      inner (some d) = of_doc d
+      inner : (x : Option Doc) → side_has_bits side ((obtain x BadValue λ d. Ok (box_of d))) ≡ true
+      inner None = refl
+      inner (Some d) = of_doc d
 
       go : (b : Bool) (x : Option Dictionary)
-          → side_has_bits side (box_read_by (require b TooLong (obtain x BadMetadata λ names. obtain (meaning_of most_levels names v) BadValue λ d. reached (box_of d)))) ≡ true
+          → side_has_bits side ((require b TooLong (obtain x BadMetadata λ names. obtain (meaning_of most_levels names v) BadValue λ d. Ok (box_of d)))) ≡ true
       go false x = refl
-      go true none = refl
-      go true (some names) = inner (meaning_of most_levels names v)
+      go true None = refl
+      go true (Some names) = inner (meaning_of most_levels names v)

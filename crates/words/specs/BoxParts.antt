@@ -1,10 +1,9 @@
 -- The words of a box: its sides, by their places in what the answer carries.
-use Rattle.std.specs.Prelude.{Bool, true, not, ℕ, Float}
+use Rattle.paper.specs.Refusals.{Outcome}
+use Rattle.std.specs.Prelude.{Bool, true, not, ℕ, Float, Ok, Err, Some, None, Option}
 use Rattle.std.specs.Float.Ieee.{is_nan}
 use Rattle.paper.specs.Answers.{value_of, box_carries}
 use Rattle.paper.specs.declared.LotBox.{LotBox}
-use Rattle.paper.specs.declared.BoxAnswer.{BoxAnswer}
-use Rattle.paper.specs.declared.BoxAnswer.TheVariants.{Read, Absent, Refused}
 use Rattle.words.specs.declared.boxes.Side.{Side}
 use Rattle.words.specs.declared.boxes.Side.TheVariants.{East, North, South, West}
 
@@ -14,7 +13,7 @@ place_of North = 1
 place_of South = 2
 place_of West = 3
 
-abbrev pub side_word : Side → BoxAnswer → ℕ
+abbrev pub side_word : Side → Outcome (Option LotBox) → ℕ
 side_word side answer = value_of (box_carries answer) (place_of side)
 
 -- ---- for the inner functions
@@ -26,7 +25,7 @@ side_of South box = box.south
 side_of West box = box.west
 
 -- The bits of the side can be had: it is no NaN.
-abbrev pub side_has_bits : Side → BoxAnswer → Bool
-side_has_bits side (Read box) = not (is_nan (side_of side box))
-side_has_bits side Absent = true
-side_has_bits side (Refused refusal) = true
+abbrev pub side_has_bits : Side → Outcome (Option LotBox) → Bool
+side_has_bits side (Ok (Some box)) = not (is_nan (side_of side box))
+side_has_bits side (Ok None) = true
+side_has_bits side (Err refusal) = true

@@ -1,16 +1,15 @@
 -- The words of a cell: what stands behind the kind in what the answer carries.
-use Rattle.std.specs.Prelude.{Bool, true, not, ℕ}
+use Rattle.paper.specs.Refusals.{Outcome}
+use Rattle.std.specs.Prelude.{Bool, true, not, ℕ, Ok, Err}
 use Rattle.std.specs.Float.Ieee.{is_nan}
 use Rattle.paper.specs.Answers.{value_of, cell_carries}
 use Rattle.paper.specs.declared.Cell.{Cell}
 use Rattle.paper.specs.declared.Cell.TheVariants.{Boolean, Integer, Float, Double, FloatNan, DoubleNan, Length, Uuid}
-use Rattle.paper.specs.declared.CellAnswer.{CellAnswer}
-use Rattle.paper.specs.declared.CellAnswer.TheVariants.{Read, Refused}
 
-abbrev pub first_word : CellAnswer → ℕ
+abbrev pub first_word : Outcome Cell → ℕ
 first_word answer = value_of (cell_carries answer) 1
 
-abbrev pub second_word : CellAnswer → ℕ
+abbrev pub second_word : Outcome Cell → ℕ
 second_word answer = value_of (cell_carries answer) 2
 
 -- ---- for the inner functions
@@ -26,6 +25,6 @@ has_bits (DoubleNan bits) = true
 has_bits (Length length) = true
 has_bits (Uuid first second) = true
 
-abbrev pub answer_has_bits : CellAnswer → Bool
-answer_has_bits (Read cell) = has_bits cell
-answer_has_bits (Refused refusal) = true
+abbrev pub answer_has_bits : Outcome Cell → Bool
+answer_has_bits (Ok cell) = has_bits cell
+answer_has_bits (Err refusal) = true

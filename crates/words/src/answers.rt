@@ -3,14 +3,14 @@ ghost use Rattle.std.specs.Prelude.{◌≡◌, true, cond, ◌<◌, ◌^◌};
 ghost use Rattle.paper.specs.Answers.{Carried};
 ghost use Rattle.words.specs.Boundary.{word, word_with, checked_word, found_word, document_word, row_word, found_has_room, document_has_room, row_has_room};
 
-use paper::{Checked, DocumentAnswer, Found, Refusal, RowAnswer};
+use paper::{Child, DocumentAnswer, Refusal, RowAnswer, Unwritten};
 
 // The parts of an answer in one word: the number, whether it is present, and two lengths or values of 24 bits.
 pub fn word(number: u8, present: bool, first: usize, second: usize) -> u64
     requires { (first < 2 ^ 24) × (second < 2 ^ 24) }
     ensures { result ≡ word number (cond present 1 0) first second }
 {
-    let low = number as u64 + 256 * (present as u64);
+    let low = u64::from(number) + 256 * u64::from(present);
     low + 65536 * (first as u64) + 1099511627776 * (second as u64)
 }
 
@@ -18,28 +18,28 @@ pub fn word(number: u8, present: bool, first: usize, second: usize) -> u64
 pub fn refused_word(refusal: Refusal) -> u64
     ensures { result ≡ word_with 2 (Carried.refusal refusal) }
 {
-    word(paper::number(refusal), false, 0, 0)
+    word(u8::from(refusal), false, 0, 0)
 }
 
 // The word of what check answers.
-pub fn checked_word(answer: Checked) -> u64
+pub fn checked_word(answer: Result<(), Refusal>) -> u64
     ensures { result ≡ checked_word answer }
 {
     match answer {
-        Checked::Good => word(0, true, 0, 0),
-        Checked::Refused(refusal) => refused_word(refusal),
+        Ok(()) => word(0, true, 0, 0),
+        Err(refusal) => refused_word(refusal),
     }
 }
 
 // The word of what find answers: the start and the length in the value.
-pub fn found_word(answer: Found) -> u64
+pub fn found_word(answer: Result<Option<Child>, Refusal>) -> u64
     requires { found_has_room answer ≡ true }
     ensures { result ≡ found_word answer }
 {
     match answer {
-        Found::At { start, length } => word(0, true, start, length),
-        Found::Absent => word(0, false, 0, 0),
-        Found::Refused(refusal) => refused_word(refusal),
+        Ok(Some(part)) => word(0, true, part.start, part.size),
+        Ok(None) => word(0, false, 0, 0),
+        Err(refusal) => refused_word(refusal),
     }
 }
 
@@ -49,9 +49,9 @@ pub fn document_word(answer: DocumentAnswer) -> u64
     ensures { result ≡ document_word answer }
 {
     match answer {
-        DocumentAnswer::Done { metadata, value } => word(0, true, metadata, value),
-        DocumentAnswer::Short { metadata, value } => word(9, false, metadata, value),
-        DocumentAnswer::Refused(refusal) => refused_word(refusal),
+        Ok(written) => word(0, true, written.metadata, written.value),
+        Err(Unwritten::Short(needed)) => word(9, false, needed.metadata, needed.value),
+        Err(Unwritten::Refused(refusal)) => refused_word(refusal),
     }
 }
 
@@ -61,8 +61,8 @@ pub fn row_word(answer: RowAnswer) -> u64
     ensures { result ≡ row_word answer }
 {
     match answer {
-        RowAnswer::Done(length) => word(0, true, length, 0),
-        RowAnswer::Short(length) => word(9, false, length, 0),
-        RowAnswer::Refused(refusal) => refused_word(refusal),
+        Ok(length) => word(0, true, length, 0),
+        Err(Unwritten::Short(length)) => word(9, false, length, 0),
+        Err(Unwritten::Refused(refusal)) => refused_word(refusal),
     }
 }

@@ -4,8 +4,7 @@ ghost use Rattle.words.specs.Boundary.{box_word};
 ghost use Rattle.words.specs.BoxParts.{side_of, side_word, side_has_bits};
 
 use crate::answers::{refused_word, word};
-use crate::cells::double_bits;
-use paper::{BoxAnswer, LotBox};
+use paper::{LotBox, Refusal};
 
 // A side of a box.
 #[derive(Clone, Copy)]
@@ -17,13 +16,13 @@ pub enum Side {
 }
 
 // The word of what the box reader answers.
-pub fn box_word(answer: BoxAnswer) -> u64
+pub fn box_word(answer: Result<Option<LotBox>, Refusal>) -> u64
     ensures { result ≡ box_word answer }
 {
     match answer {
-        BoxAnswer::Read(_) => word(0, true, 0, 0),
-        BoxAnswer::Absent => word(0, false, 0, 0),
-        BoxAnswer::Refused(refusal) => refused_word(refusal),
+        Ok(Some(_)) => word(0, true, 0, 0),
+        Ok(None) => word(0, false, 0, 0),
+        Err(refusal) => refused_word(refusal),
     }
 }
 
@@ -40,13 +39,12 @@ fn side_of(side: Side, read: LotBox) -> f64
 }
 
 // The bits of a side of the box that was read, 0 where there is none.
-pub fn side_word(side: Side, answer: BoxAnswer) -> u64
+pub fn side_word(side: Side, answer: Result<Option<LotBox>, Refusal>) -> u64
     requires { side_has_bits side answer ≡ true }
     ensures { result ≡ side_word side answer }
 {
     match answer {
-        BoxAnswer::Read(read) => double_bits(side_of(side, read)),
-        BoxAnswer::Absent => 0,
-        BoxAnswer::Refused(_) => 0,
+        Ok(Some(read)) => side_of(side, read).to_bits(),
+        Ok(None) | Err(_) => 0,
     }
 }

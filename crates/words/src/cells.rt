@@ -1,14 +1,12 @@
 // The words of a cell: its kind, and the one or two words that it holds.
-ghost use Rattle.std.specs.Prelude.{◌≡◌, true, not, ◌<◌, T};
-ghost use Rattle.std.specs.Float.Ieee.{is_nan, to_bits};
-ghost use Rattle.std.specs.Float.{binary32, binary64};
+ghost use Rattle.std.specs.Prelude.{◌≡◌, true, ◌<◌};
 ghost use Rattle.paper.specs.Answers.{cell_values};
 ghost use Rattle.paper.specs.Words.{at};
 ghost use Rattle.words.specs.Boundary.{cell_word};
 ghost use Rattle.words.specs.CellParts.{first_word, second_word, has_bits, answer_has_bits};
 
 use crate::answers::{refused_word, word};
-use paper::{Cell, CellAnswer};
+use paper::{Cell, Refusal};
 
 // The kind of a cell, 1 to 6.
 fn kind_of(cell: Cell) -> usize
@@ -17,32 +15,11 @@ fn kind_of(cell: Cell) -> usize
     match cell {
         Cell::Boolean(_) => 1,
         Cell::Integer(_) => 2,
-        Cell::Float(_) => 3,
-        Cell::FloatNan(_) => 3,
-        Cell::Double(_) => 4,
-        Cell::DoubleNan(_) => 4,
+        Cell::Float(_) | Cell::FloatNan(_) => 3,
+        Cell::Double(_) | Cell::DoubleNan(_) => 4,
         Cell::Length(_) => 5,
-        Cell::Uuid {
-            first: _,
-            second: _,
-        } => 6,
+        Cell::Uuid { .. } => 6,
     }
-}
-
-// A float's bits.
-fn float_bits(x: f32) -> u32
-    requires { T (not (is_nan x)) }
-    ensures { result ≡ to_bits binary32 x }
-{
-    f32::to_bits(x)
-}
-
-// A double's bits.
-pub fn double_bits(x: f64) -> u64
-    requires { T (not (is_nan x)) }
-    ensures { result ≡ to_bits binary64 x }
-{
-    f64::to_bits(x)
 }
 
 // The first word of a cell.
@@ -51,14 +28,14 @@ fn first_of(cell: Cell) -> u64
     ensures { result ≡ at (cell_values cell) 1 }
 {
     match cell {
-        Cell::Boolean(yes) => yes as u64,
+        Cell::Boolean(yes) => u64::from(yes),
         Cell::Integer(z) => signed::unsigned(z),
-        Cell::Float(x) => float_bits(x) as u64,
-        Cell::FloatNan(bits) => bits as u64,
-        Cell::Double(x) => double_bits(x),
+        Cell::Float(x) => u64::from(x.to_bits()),
+        Cell::FloatNan(bits) => u64::from(bits),
+        Cell::Double(x) => x.to_bits(),
         Cell::DoubleNan(bits) => bits,
         Cell::Length(length) => length as u64,
-        Cell::Uuid { first, second: _ } => first,
+        Cell::Uuid { first, .. } => first,
     }
 }
 
@@ -67,44 +44,38 @@ fn second_of(cell: Cell) -> u64
     ensures { result ≡ at (cell_values cell) 2 }
 {
     match cell {
-        Cell::Boolean(_) => 0,
-        Cell::Integer(_) => 0,
-        Cell::Float(_) => 0,
-        Cell::FloatNan(_) => 0,
-        Cell::Double(_) => 0,
-        Cell::DoubleNan(_) => 0,
-        Cell::Length(_) => 0,
-        Cell::Uuid { first: _, second } => second,
+        Cell::Uuid { second, .. } => second,
+        _ => 0,
     }
 }
 
 // The answer's word: present with the kind, or the refusal.
-pub fn cell_word(answer: CellAnswer) -> u64
+pub fn cell_word(answer: Result<Cell, Refusal>) -> u64
     ensures { result ≡ cell_word answer }
 {
     match answer {
-        CellAnswer::Read(held) => word(0, true, kind_of(held), 0),
-        CellAnswer::Refused(refusal) => refused_word(refusal),
+        Ok(held) => word(0, true, kind_of(held), 0),
+        Err(refusal) => refused_word(refusal),
     }
 }
 
 // The first word of the cell that was read, 0 on a refusal.
-pub fn first_word(answer: CellAnswer) -> u64
+pub fn first_word(answer: Result<Cell, Refusal>) -> u64
     requires { answer_has_bits answer ≡ true }
     ensures { result ≡ first_word answer }
 {
     match answer {
-        CellAnswer::Read(held) => first_of(held),
-        CellAnswer::Refused(_) => 0,
+        Ok(held) => first_of(held),
+        Err(_) => 0,
     }
 }
 
 // The second word of the cell that was read, 0 on a refusal.
-pub fn second_word(answer: CellAnswer) -> u64
+pub fn second_word(answer: Result<Cell, Refusal>) -> u64
     ensures { result ≡ second_word answer }
 {
     match answer {
-        CellAnswer::Read(held) => second_of(held),
-        CellAnswer::Refused(_) => 0,
+        Ok(held) => second_of(held),
+        Err(_) => 0,
     }
 }

@@ -1,8 +1,8 @@
 -- A lawful scalar is its own normal form, but for a string with its length in front that has at most 63 bytes: its first
 -- byte and its length are those that normal form writes.
+use Rattle.std.specs.Prelude.{Some}
 use mathlib.Core.Bool.{Bool, true, false, cond, ◌&&◌}
 use mathlib.Core.List.{List, [], ◌∷◌, ◌++◌}
-use mathlib.Core.Option.{some, some-injective}
 use mathlib.Core.Path.{◌≡◌, refl, sym, ap, ◌∙◌}
 use Prim.Native.Nat.{ℕ, zero, suc, ◌+◌, ◌-◌, ◌*◌, ◌/◌, ◌%◌, ◌≤◌, ◌<◌}
 use native.Mathlib.Omega.{arith}
@@ -29,6 +29,7 @@ use Rattle.paper.specs.declared.Reading.{Reading}
 use Rattle.values.proofs.PrimitiveLaws.{whole_extent}
 use Rattle.writing.specs.Rewritten.{shortened}
 use Rattle.writing.proofs.RewrittenLaws.{prefix_there, text_short}
+use Rattle.std.proofs.lemmas.Option.{same_Some}
 
 -- ---- the first byte of a scalar, from its reading
 
@@ -88,22 +89,22 @@ none_long (b ∷ s) e = absurd (omega arith)
 
 -- A first byte and a payload of its type's size.
 primitive_stands : (normal : Dictionary) (s : List ℕ) (d : Doc) (type : ℕ) → (4 * type) ∷ drop 1 s ≡ s → length (drop 1 s) ≡ get_or payload_sizes type 0
-    → (type ≡ 15 → ⊥) → primitive_meaning type (drop 1 s) ≡ some d → s ≡ value_bytes normal d
+    → (type ≡ 15 → ⊥) → primitive_meaning type (drop 1 s) ≡ Some d → s ≡ value_bytes normal d
 unfolding primitive_meaning value_bytes scalar_bytes payload_sizes
 primitive_stands normal s d type first long other e = go type first long other e
   where
     alone : (n : ℕ) → n ∷ drop 1 s ≡ s → length (drop 1 s) ≡ 0 → s ≡ n ∷ []
     alone n f none = sym f ∙ ap (λ (l : List ℕ). n ∷ l) (none_long (drop 1 s) none)
 
-    go : (t : ℕ) → (4 * t) ∷ drop 1 s ≡ s → length (drop 1 s) ≡ get_or payload_sizes t 0 → (t ≡ 15 → ⊥) → primitive_meaning t (drop 1 s) ≡ some d
+    go : (t : ℕ) → (4 * t) ∷ drop 1 s ≡ s → length (drop 1 s) ≡ get_or payload_sizes t 0 → (t ≡ 15 → ⊥) → primitive_meaning t (drop 1 s) ≡ Some d
         → s ≡ value_bytes normal d
-    go zero f l o m = alone 0 f l ∙ ap (value_bytes normal) (some-injective null d m)
-    go (suc zero) f l o m = alone 4 f l ∙ ap (value_bytes normal) (some-injective (scalar (boolean true)) d m)
-    go (suc (suc zero)) f l o m = alone 8 f l ∙ ap (value_bytes normal) (some-injective (scalar (boolean false)) d m)
+    go zero f l o m = alone 0 f l ∙ ap (value_bytes normal) (same_Some null d m)
+    go (suc zero) f l o m = alone 4 f l ∙ ap (value_bytes normal) (same_Some (scalar (boolean true)) d m)
+    go (suc (suc zero)) f l o m = alone 8 f l ∙ ap (value_bytes normal) (same_Some (scalar (boolean false)) d m)
     go (suc (suc (suc more))) f l o m =
         let t : ℕ = suc (suc (suc more)) in
         let held : Doc = scalar (payload t (drop 1 s)) in
-        let is : held ≡ d = some-injective held d (given_some _ (some held) m).1 in
+        let is : held ≡ d = same_Some held d (given_some _ (Some held) m).1 in
         let as-payload : s ≡ value_bytes normal (scalar (payload t (drop 1 s))) = rw (ne_eqb t 15 o) (sym f) in
         as-payload ∙ ap (value_bytes normal) is
 
@@ -123,7 +124,7 @@ module _ (s : List ℕ) (fills : whole s ≡ true) where
 
   -- ---- a primitive of a fixed size
 
-  pub fixed_stands : (normal : Dictionary) (type size : ℕ) (d : Doc) → reading_of (at s 0) ≡ Fixed type size → primitive_meaning type (drop 1 s) ≡ some d
+  pub fixed_stands : (normal : Dictionary) (type size : ℕ) (d : Doc) → reading_of (at s 0) ≡ Fixed type size → primitive_meaning type (drop 1 s) ≡ Some d
       → s ≡ value_bytes normal d
   fixed_stands normal type size d is e = primitive_stands normal s d type first long other.0 e
     where
@@ -148,8 +149,8 @@ module _ (s : List ℕ) (fills : whole s ≡ true) where
     length_is : number_at s 1 4 ≡ length (drop 5 s)
     unfolding extent_by
     length_is =
-        let by : some (5 + number_at s 1 4) ≡ some (length s) = (given_some (leb 5 (length s)) _ (rw is at (extent_some s (whole_extent s fills)).1)).1 in
-        let all : 5 + number_at s 1 4 ≡ length s = some-injective (5 + number_at s 1 4) (length s) by in
+        let by : Some (5 + number_at s 1 4) ≡ Some (length s) = (given_some (leb 5 (length s)) _ (rw is at (extent_some s (whole_extent s fills)).1)).1 in
+        let all : 5 + number_at s 1 4 ≡ length s = same_Some (5 + number_at s 1 4) (length s) by in
         rw length-drop (omega arith)
 
     four : number_bytes 4 (length (drop 5 s)) ≡ take 4 (drop 1 s)
@@ -197,8 +198,8 @@ module _ (s : List ℕ) (fills : whole s ≡ true) where
   pub short_stands : (normal : Dictionary) (size : ℕ) → Bytes s → reading_of (at s 0) ≡ Short size → s ≡ value_bytes normal (scalar (text (drop 1 s)))
   unfolding value_bytes scalar_bytes text_bytes extent_by
   short_stands normal size bytes is =
-      let by : some (1 + size) ≡ some (length s) = rw is at (extent_some s (whole_extent s fills)).1 in
-      let all : 1 + size ≡ length s = some-injective (1 + size) (length s) by in
+      let by : Some (1 + size) ≡ Some (length s) = rw is at (extent_some s (whole_extent s fills)).1 in
+      let all : 1 + size ≡ length s = same_Some (1 + size) (length s) by in
       let code : size ≡ at s 0 / 4 = short_sizes (at s 0) is in
       let byte : at s 0 < 256 = bytes 0 in
       let size_is : length (drop 1 s) ≡ size = rw length-drop (omega arith) in

@@ -30,6 +30,16 @@ Offsets before after count width start end at =
     (parts : List (List ℕ)) → Lies before start end parts → length parts ≡ count
     → EndsAt (numbers_bytes width (offsets_from 0 parts)) before after start at
 
+-- Children lie there, and a head of their count fits in front of them.
+pub record Headed (out : List ℕ) (start end count id : ℕ) : Type 0 where
+  pub lying : Lying out start end count
+  pub fits : head_size_of count (count_size (large_bit count)) id (smallest_width (end - start)) ≤ start
+
+-- The same of the count that was read.
+pub counted : {out : List ℕ} {start end n id : ℕ} → Lying out start end n
+    → head_size_of n (count_size (large_bit n)) id (smallest_width (end - start)) ≤ start → (count : ℕ) → count ≡ n → Headed out start end count id
+counted lying fits count is = record { lying = rw is lying; fits = rw is fits }
+
 module _ {out : List ℕ} {start end count : ℕ} (lying : Lying out start end count) where
   pub start_behind : start ≤ end
   start_behind = let size = lying.lie.size in omega arith

@@ -1,8 +1,8 @@
 -- The children of a lawful container: each is there, lawful inside, and has its ids in the table; what each is rewritten to
 -- is one value.
+use Rattle.std.specs.Prelude.{Option, None, Some}
 use mathlib.Core.Bool.{true}
 use mathlib.Core.List.{List, [], ◌∷◌, ◌++◌, map}
-use mathlib.Core.Option.{Option, none, some, some-injective}
 use mathlib.Core.Path.{◌≡◌, refl, sym, ap, ◌∙◌, subst}
 use Prim.Native.Nat.{ℕ, zero, suc, ◌+◌, ◌^◌, ◌≤◌, ◌<◌}
 use native.Mathlib.Omega.{arith}
@@ -15,13 +15,15 @@ use Rattle.marking.specs.Ids.{ids_of_all, ids_inside, ids_in}
 use Rattle.paper.specs.Bounds.{most_walked}
 use Rattle.paper.proofs.WordLaws.{never, then_some, and_both}
 use Rattle.paper.specs.Metadata.{Dictionary}
-use Rattle.paper.specs.Values.{Child, child_extent, children_at, child_bytes, meaning_of}
+use Rattle.paper.specs.Values.{child_extent, children_at, child_bytes, meaning_of}
+use Rattle.paper.specs.declared.Child.{Child}
 use Rattle.paper.specs.Words.{is_there, all_below, joined}
 use Rattle.containers.proofs.ChildLaws.{extent_fits}
 use Rattle.values.specs.Insides.{all_good, insides_good}
 use Rattle.writing.specs.Rewritten.{sized_part, part_at, rewritten}
 use Rattle.writing.specs.Written.{WritableChild}
 use Rattle.writing.proofs.RewrittenLaws.{rewritten_filled}
+use Rattle.std.proofs.lemmas.Option.{same_Some}
 
 pub below_append : (bound : ℕ) (ns ms : List ℕ) → all_below bound (ns ++ ms) ≡ true → (all_below bound ns ≡ true) × (all_below bound ms ≡ true)
 unfolding all_below
@@ -33,7 +35,7 @@ below_append bound (n ∷ ns) ms e =
 
 module _ (levels : ℕ) (names : Dictionary) (ranks area : List ℕ) where
   -- One child of several, by its place.
-  child_of : (starts : List ℕ) (kids : List Child) → children_at area starts ≡ some kids → all_good (meaning_of levels names) area kids ≡ true
+  child_of : (starts : List ℕ) (kids : List Child) → children_at area starts ≡ Some kids → all_good (meaning_of levels names) area kids ≡ true
       → all_below (length ranks) (ids_of_all (ids_in levels) area kids) ≡ true → (k : ℕ) → k < length starts
       → WritableChild levels names ranks area (get_or starts k 0)
   unfolding children_at all_good ids_of_all
@@ -42,7 +44,7 @@ module _ (levels : ℕ) (names : Dictionary) (ranks area : List ℕ) where
       let first = then_some (child_extent area start) _ are in
       let rest = then_some (children_at area more) _ first.2 in
       let child : Child = record { start = start; size = first.0 } in
-      let is : child ∷ rest.0 ≡ kids = some-injective (child ∷ rest.0) kids rest.2 in
+      let is : child ∷ rest.0 ≡ kids = same_Some (child ∷ rest.0) kids rest.2 in
       let goods = and_both (is_there (meaning_of levels names (child_bytes area child))) (all_good (meaning_of levels names) area rest.0)
       (ap (all_good (meaning_of levels names) area) is ∙ good) in
       let belows = below_append (length ranks) (ids_in levels (child_bytes area child)) (ids_of_all (ids_in levels) area rest.0)
@@ -65,8 +67,8 @@ module _ (levels : ℕ) (names : Dictionary) (ranks area : List ℕ) where
       go : (x : Option (List Child)) → children_at area starts ≡ x → insides_good (meaning_of levels names) area x ≡ true
           → all_below (length ranks) (ids_inside (ids_in levels) area x) ≡ true → (k : ℕ) → k < length starts
           → WritableChild levels names ranks area (get_or starts k 0)
-      go none are g b = never (sym g)
-      go (some kids) are g b = child_of starts kids are g b
+      go None are g b = never (sym g)
+      go (Some kids) are g b = child_of starts kids are g b
 
   -- ---- what each is rewritten to
 

@@ -1,7 +1,7 @@
 -- The offsets of parts that stand already: a walk over the parts by their lengths, with what is left of the offsets to be
 -- put behind what was put.
+use Rattle.std.specs.Prelude.{Some, Option, None}
 use mathlib.Core.List.{List, [], ◌∷◌, ◌++◌, append_assoc, append-nil}
-use mathlib.Core.Option.{some}
 use mathlib.Core.Path.{◌≡◌, refl, sym, ap, ◌∙◌}
 use Prim.Native.Nat.{ℕ, suc, ◌+◌, ◌-◌, ◌*◌, ◌^◌, ◌≤◌, ◌<◌}
 use native.Mathlib.Nat.{suc-mul}
@@ -15,9 +15,6 @@ use mir.Val.{Fits}
 use Rattle.forms.proofs.PartLaws.{AllFilled}
 use Rattle.forms.proofs.ScalarLaws.{Filled}
 use Rattle.heads.proofs.HeadLaws.{extent_more}
-use Rattle.heads.specs.Extents.{extent_answer}
-use Rattle.heads.specs.declared.Extent.{Extent}
-use Rattle.heads.specs.declared.Extent.TheVariants.{Size, Unknown}
 use Rattle.names.proofs.RunLaws.{numbers_bytes-length, offsets_length}
 use Rattle.numbers.proofs.NumberLaws.{length-number_bytes}
 use Rattle.numbers.proofs.PutLaws.{put_run, length_put}
@@ -103,7 +100,7 @@ module _ {parts : List (List ℕ)} {out₀ out : List ℕ} {count width start en
           ap (λ (k : ℕ). drop k after) seen.child_is ∙ sym (drop-drop (length seen.front) start after)
           ∙ ap (drop (length seen.front)) after_are ∙ drop_at seen.front (joined seen.left ++ seen.rest) (length seen.front) refl ∙ joined_is
 
-      child_long : child_extent after child ≡ some (length one)
+      child_long : child_extent after child ≡ Some (length one)
       unfolding child_extent and_then given
       child_long =
           let size = seen.size in
@@ -154,18 +151,17 @@ module _ {parts : List (List ℕ)} {out₀ out : List ℕ} {count width start en
           }
 
     -- By what was answered of its length.
-    module _ (h : i < count) (r : Extent) (told : r ≡ extent_answer (child_extent after child)) where
+    module _ (h : i < count) (r : Option ℕ) (told : r ≡ child_extent after child) where
       some_more : (one : List ℕ) × (more : List (List ℕ)) × (seen.left ≡ one ∷ more)
       some_more = let is = seen.count_is in some_left seen.left (omega arith)
 
-      answer : r ≡ Size (length some_more.0)
-      unfolding extent_answer
-      answer = told ∙ ap extent_answer (child_long some_more.0 some_more.1 some_more.2)
+      answer : r ≡ Some (length some_more.0)
+      answer = told ∙ (child_long some_more.0 some_more.1 some_more.2)
 
-      pub told_long : r ≡ Unknown → ⊥
+      pub told_long : r ≡ None → ⊥
       told_long e = let same = answer in let z : ◌≡◌ {A = ℕ} 0 1 = cc in absurd (omega arith)
 
-      module _ (size : ℕ) (e : r ≡ Size size) where
+      module _ (size : ℕ) (e : r ≡ Some size) where
         size_is : size ≡ length some_more.0
         size_is = let same = answer in cc
 

@@ -1,4 +1,5 @@
 -- The loop that writes the offsets: what was shown of the parts that lie there, for whatever parts they are.
+use Rattle.std.specs.Prelude.{Option, Some, None}
 use mathlib.Core.List.{List, []}
 use mathlib.Core.Path.{◌≡◌, refl, ◌∙◌}
 use Prim.Native.Nat.{ℕ, ◌+◌, ◌-◌, ◌*◌, ◌^◌, ◌≤◌, ◌<◌}
@@ -6,9 +7,6 @@ use native.Mathlib.Omega.{arith}
 use lib.ListN.{length, drop}
 use mir.Syntax.{w64}
 use mir.Val.{Fits}
-use Rattle.heads.specs.Extents.{extent_answer}
-use Rattle.heads.specs.declared.Extent.{Extent}
-use Rattle.heads.specs.declared.Extent.TheVariants.{Size, Unknown}
 use Rattle.numbers.specs.Little.{number_bytes, put_at}
 use Rattle.paper.specs.Normal.{numbers_bytes, offsets_from}
 use Rattle.paper.specs.Values.{child_extent}
@@ -61,13 +59,13 @@ module _ {out₀ out : List ℕ} {count width start end from place child i : ℕ
     pub last_behind : start ≤ end
     last_behind = end_behind held
 
-    pub child_fits : (n : ℕ) {after : List ℕ} → after ≡ put_at out place (number_bytes width n) → i < count → (r : Extent)
-        → r ≡ extent_answer (child_extent after child) → (size : ℕ) → r ≡ Size size → length out₀ < 2 ^ 64 → Fits w64 (child + size)
+    pub child_fits : (n : ℕ) {after : List ℕ} → after ≡ put_at out place (number_bytes width n) → i < count → (r : Option ℕ)
+        → r ≡ child_extent after child → (size : ℕ) → r ≡ Some size → length out₀ < 2 ^ 64 → Fits w64 (child + size)
     child_fits n put h r told size e small = long_fits held n put h r told size e small
 
-  module _ {after : List ℕ} (put : after ≡ put_at out place (number_bytes width (child - start))) (h : i < count) (r : Extent)
-      (told : r ≡ extent_answer (child_extent after child)) where
-    pub offsets_next : Lying out₀ start end count → (size : ℕ) → r ≡ Size size
+  module _ {after : List ℕ} (put : after ≡ put_at out place (number_bytes width (child - start))) (h : i < count) (r : Option ℕ)
+      (told : r ≡ child_extent after child) where
+    pub offsets_next : Lying out₀ start end count → (size : ℕ) → r ≡ Some size
         → OffsetsLoop out₀ after count width start end from (place + width) (child + size) (i + 1)
     offsets_next lying size e =
         record {
@@ -75,7 +73,7 @@ module _ {out₀ out : List ℕ} {count width start end from place child i : ℕ
           seen = λ parts lie counted. seen_next (loop.seen parts lie counted) (child - start) put h r told size e refl;
         }
 
-    pub offsets_lost : r ≡ Unknown → (parts : List (List ℕ)) → Lies out₀ start end parts → length parts ≡ count
+    pub offsets_lost : r ≡ None → (parts : List (List ℕ)) → Lies out₀ start end parts → length parts ≡ count
         → EndsAt (numbers_bytes width (offsets_from 0 parts)) out₀ after start from
     offsets_lost e parts lie counted = absurd (told_long (loop.seen parts lie counted) (child - start) put h r told e)
 

@@ -6,36 +6,25 @@ use native.Mathlib.Omega.{arith}
 use lib.ListN.{length, drop}
 use lib.Seq.{drop_at, drop-drop}
 use Rattle.forms.proofs.PartLaws.{AllFilled}
-use Rattle.paper.specs.Bounds.{most_walked}
-use Rattle.paper.specs.Values.{area_of, starts_of}
-use Rattle.paper.specs.Words.{at, joined}
-use Rattle.containers.proofs.LayoutLaws.{area_same, area_small}
-use Rattle.containers.specs.Layouts.{Container, LaidOut}
-use Rattle.containers.specs.declared.shape.Layout.{Layout}
+use Rattle.paper.specs.Words.{joined}
 use Rattle.writing.specs.Ends.{EndsAt, Lies, Lying}
-use Rattle.writing.specs.Rewritten.{parts_of, rewritten}
+use Rattle.writing.specs.Rewritten.{parts_in, rewritten}
 use Rattle.writing.specs.Written.{Holding}
 use Rattle.writing.proofs.EndLaws.{ends_behind, ends_length}
 use Rattle.writing.proofs.InsideLaws.{parts_filled}
 use Rattle.writing.proofs.RewrittenLaws.{parts_counted}
 
-module _ {levels : ℕ} {s ranks : List ℕ} {c i w room end : ℕ} (holding : Holding levels s ranks c i w room end) where
+module _ {levels : ℕ} {area starts ranks : List ℕ} {room end : ℕ} (holding : Holding levels area starts ranks room end) where
   abbrev parts : List (List ℕ)
-  parts = parts_of (rewritten levels ranks) c i w s
+  parts = parts_in (rewritten levels ranks) area starts
 
-  container : Container s c i w
-  container = holding.container
-
-  filled : (l : Layout) → LaidOut s c i w l → AllFilled parts
-  unfolding parts_of
-  filled l laid =
-      let small : length (area_of c i w s) ≤ most_walked = rw (area_same s c i w container l laid) at (area_small s c i w container l laid) in
+  filled : AllFilled parts
+  filled =
       let fit = holding.fits in
       let most = holding.most in
-      parts_filled levels holding.names ranks (area_of c i w s) small (starts_of c i w s) holding.each (omega arith)
+      parts_filled levels holding.names ranks area holding.small starts holding.each (omega arith)
 
-  module _ (l : Layout) (laid : LaidOut s c i w l) {before middle : List ℕ} {start : ℕ} (room-is : length before ≡ room)
-      (ended : EndsAt (joined parts) before middle end start) where
+  module _ {before middle : List ℕ} {start : ℕ} (room-is : length before ≡ room) (ended : EndsAt (joined parts) before middle end start) where
     pub in_room : end ≤ length before
     in_room = let within = holding.within in omega arith
 
@@ -48,10 +37,10 @@ module _ {levels : ℕ} {s ranks : List ℕ} {c i w room end : ℕ} (holding : H
         let behind : drop end middle ≡ drop end before =
         ap (λ (n : ℕ). drop n middle) (sym size) ∙ sym (drop-drop (length (joined parts)) start middle)
         ∙ ap (drop (length (joined parts))) front ∙ drop_at (joined parts) (drop end before) (length (joined parts)) refl in
-        record { filled = filled l laid; size = size; are = rw behind front; within = omega arith }
+        record { filled = filled; size = size; are = rw behind front; within = omega arith }
 
-    pub parts_lying : Lying middle start end l.count
-    parts_lying = record { parts = parts; lie = parts_lie; count_is = parts_counted (rewritten levels ranks) container l laid }
+    pub parts_lying : Lying middle start end (length starts)
+    parts_lying = record { parts = parts; lie = parts_lie; count_is = parts_counted (rewritten levels ranks) area starts }
 
     pub parts_within : end ≤ length middle
     parts_within = parts_lie.within

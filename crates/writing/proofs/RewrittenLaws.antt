@@ -20,16 +20,14 @@ use Rattle.paper.specs.Meaning.{text}
 use Rattle.paper.specs.Metadata.{Dictionary}
 use Rattle.paper.specs.Normal.{text_bytes, scalar_bytes}
 use Rattle.paper.specs.Values.{extent_by, area_of, starts_of, ids_of, meaning_by, meaning_of, whole}
-use Rattle.paper.specs.Words.{at, is_there, numbers}
+use Rattle.paper.specs.Words.{at, is_there}
 use Rattle.paper.specs.declared.Reading.TheVariants.{Fixed, Prefixed, Short, ObjectHead, ArrayHead, Nothing}
 use Rattle.paper.specs.declared.Reading.{Reading}
-use Rattle.containers.proofs.LayoutLaws.{starts_there, starts_same, ids_starts_length}
-use Rattle.containers.specs.Layouts.{Container, LaidOut}
-use Rattle.containers.specs.declared.shape.Layout.{Layout}
-use Rattle.dictionary.proofs.NumbersRunLaws.{rest, run_length}
+use Rattle.containers.proofs.LayoutLaws.{ids_starts_length}
+use Rattle.containers.specs.Layouts.{HeadThere}
 use Rattle.values.proofs.PrimitiveLaws.{whole_extent}
 use Rattle.values.proofs.ValueLaws.{object_container, object_id}
-use Rattle.writing.specs.Rewritten.{ranks_at, shortened, part_at, parts_of, rewritten_by, rewritten}
+use Rattle.writing.specs.Rewritten.{ranks_at, shortened, part_at, parts_in, parts_of, rewritten_by, rewritten}
 
 -- What a lawful value tells, one level further in.
 pub record OneLevel (levels : ℕ) (names : Dictionary) (ranks s : List ℕ) : Type 0 where
@@ -92,22 +90,19 @@ shortened_filled type s long fills small = go (eqb type 16) (leb (length s) 68) 
 
 -- ---- any value
 
--- As many parts as starts, as many as the count says, and as many as an object's ids.
+-- As many parts as starts, and as many as an object's ids.
+pub parts_counted : (inner : List ℕ → List ℕ) (area starts : List ℕ) → length (parts_in inner area starts) ≡ length starts
+parts_counted inner area starts = length-map starts (part_at inner area)
+
 pub parts_length : (inner : List ℕ → List ℕ) (c i w : ℕ) (s : List ℕ) → length (parts_of inner c i w s) ≡ length (starts_of c i w s)
 unfolding parts_of
 parts_length inner c i w s = length-map (starts_of c i w s) (part_at inner (area_of c i w s))
 
-module _ (inner : List ℕ → List ℕ) {s : List ℕ} {c i w : ℕ} (container : Container s c i w) where
-  pub parts_counted : (l : Layout) → LaidOut s c i w l → length (parts_of inner c i w s) ≡ l.count
-  parts_counted l laid =
-      let there : l.count * w ≤ length (rest s l.starts) = rw laid.width_is at (starts_there s c i w container l laid) in
-      let same : numbers w l.count (rest s l.starts) ≡ starts_of c i w s = rw laid.width_is at (starts_same s c i w container l laid) in
-      parts_length inner c i w s ∙ ap length (sym same) ∙ run_length w l.count (rest s l.starts) container.least there
-
-  pub ids_counted : (ranks : List ℕ) → 1 ≤ i → length (ranks_at ranks (ids_of c i s)) ≡ length (parts_of inner c i w s)
-  unfolding ranks_at
-  ids_counted ranks least =
-      length-map (ids_of c i s) (λ (id : ℕ). get_or ranks id 0) ∙ ids_starts_length s c i w container least ∙ sym (parts_length inner c i w s)
+pub ids_counted : (inner : List ℕ → List ℕ) {s : List ℕ} {c i w : ℕ} → HeadThere s c i w → (ranks : List ℕ) → 1 ≤ i
+    → length (ranks_at ranks (ids_of c i s)) ≡ length (parts_of inner c i w s)
+unfolding ranks_at
+ids_counted inner {s} {c} {i} {w} there ranks least =
+    length-map (ids_of c i s) (λ (id : ℕ). get_or ranks id 0) ∙ ids_starts_length s c i w there least ∙ sym (parts_length inner c i w s)
 
 pub rewritten_filled : (levels : ℕ) (names : Dictionary) (ranks s : List ℕ) → is_there (meaning_of levels names s) ≡ true → length s ≤ most_walked
     → length (rewritten levels ranks s) < 2 ^ 32 → Filled (rewritten levels ranks s)

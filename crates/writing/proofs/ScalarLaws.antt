@@ -1,11 +1,12 @@
 -- Scalars so that they end at a place: copied, or a string with one first byte for its length.
 use mathlib.Core.List.{List, ◌∷◌}
+use mathlib.Core.Logic.{◌⊎◌, inl, inr}
 use mathlib.Core.Path.{◌≡◌}
 use Prim.Native.Nat.{ℕ, ◌+◌, ◌-◌, ◌*◌, ◌%◌, ◌≤◌, ◌<◌}
 use native.Mathlib.Omega.{arith}
 use borrow.Author.Tests.{eq-eqb, ne_eqb, le-leb, lt-leb}
 use lib.ListN.{length, drop}
-use Rattle.dictionary.proofs.NumbersRunLaws.{rest, rest_is}
+use Rattle.runs.proofs.NumbersRunLaws.{rest, rest_is}
 use Rattle.numbers.specs.Little.{put_at, number_bytes}
 use Rattle.writing.specs.Ends.{EndsAt}
 use Rattle.writing.specs.Rewritten.{shortened}
@@ -18,13 +19,11 @@ copied_ends s before end is fits = put_ends before s (end - length s) is (omega 
 -- ---- a string or binary with its length in front
 
 module _ (code : ℕ) (s : List ℕ) where
-  pub other_same : (code ≡ 16 → ⊥) → shortened code s ≡ s
+  -- it stays as it stands
+  kept : (code ≡ 16 → ⊥) ⊎ ((code ≡ 16) × (68 < length s)) → shortened code s ≡ s
   unfolding shortened
-  other_same other = rw (ne_eqb code 16 other)
-
-  pub long_same : code ≡ 16 → 68 < length s → shortened code s ≡ s
-  unfolding shortened
-  long_same string long = rw (eq-eqb code 16 string, lt-leb (length s) 68 long)
+  kept (inl other) = rw (ne_eqb code 16 other)
+  kept (inr long) = rw (eq-eqb code 16 long.0, lt-leb (length s) 68 long.1)
 
   pub short_is : code ≡ 16 → length s ≤ 68 → shortened code s ≡ (4 * (length s - 5) + 1) ∷ drop 5 s
   unfolding shortened
@@ -32,11 +31,8 @@ module _ (code : ℕ) (s : List ℕ) where
 
   -- what the copying asks, and what it comes to, in each case
   module _ {end : ℕ} (fits : length (shortened code s) ≤ end) where
-    pub other_asks : (code ≡ 16 → ⊥) → length s ≤ end
-    other_asks other = rw (other_same other) at fits
-
-    pub long_asks : code ≡ 16 → 68 < length s → length s ≤ end
-    long_asks string long = rw (long_same string long) at fits
+    pub kept_asks : (code ≡ 16 → ⊥) ⊎ ((code ≡ 16) × (68 < length s)) → length s ≤ end
+    kept_asks either = rw (kept either) at fits
 
     short_fits : code ≡ 16 → length s ≤ 68 → 1 + length (drop 5 s) ≤ end
     short_fits string few = let all : length ((4 * (length s - 5) + 1) ∷ drop 5 s) ≤ end = rw (short_is string few) at fits in omega arith
@@ -51,11 +47,8 @@ module _ (code : ℕ) (s : List ℕ) where
         omega arith
 
   module _ {before after : List ℕ} {end start : ℕ} where
-    pub other_ends : (code ≡ 16 → ⊥) → EndsAt s before after end start → EndsAt (shortened code s) before after end start
-    other_ends other ends = rw (other_same other) ends
-
-    pub long_ends : code ≡ 16 → 68 < length s → EndsAt s before after end start → EndsAt (shortened code s) before after end start
-    long_ends string long ends = rw (long_same string long) ends
+    pub kept_ends : (code ≡ 16 → ⊥) ⊎ ((code ≡ 16) × (68 < length s)) → EndsAt s before after end start → EndsAt (shortened code s) before after end start
+    kept_ends either ends = rw (kept either) ends
 
     pub short_ends : code ≡ 16 → length s ≤ 68 → end ≤ length before → 1 ≤ start → EndsAt (rest s 5) before after end start → {last : List ℕ}
         → last ≡ put_at after (start - 1) (number_bytes 1 (4 * (length s - 5) + 1)) → EndsAt (shortened code s) before last end (start - 1)

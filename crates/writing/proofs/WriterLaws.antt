@@ -1,37 +1,37 @@
 -- A lawful value by its first byte: what its parts need to be written, and what they come to.
 use mathlib.Core.Bool.{true, ◌&&◌}
 use mathlib.Core.List.{List, ◌++◌}
-use mathlib.Core.Path.{◌≡◌, sym, ap, ◌∙◌}
-use Prim.Native.Nat.{ℕ, ◌+◌, ◌-◌, ◌*◌, ◌≤◌, ◌<◌}
+use mathlib.Core.Path.{◌≡◌, refl, sym, ap, ◌∙◌}
+use Prim.Native.Nat.{ℕ, ◌+◌, ◌-◌, ◌≤◌, ◌<◌}
 use native.Mathlib.Omega.{arith}
 use lib.ListN.{length, length-append}
-use Rattle.dictionary.proofs.NumbersRunLaws.{rest}
 use Rattle.forms.proofs.ContainerLaws.{array_length, object_length}
 use Rattle.marking.specs.Ids.{ids_inside, ids_by, ids_in}
-use Rattle.numbers.specs.Little.{smallest_width}
+use Rattle.numbers.specs.Little.{smallest_width, number_at}
 use Rattle.paper.proofs.WordLaws.{and_both}
+use Rattle.paper.specs.Bounds.{most_walked}
 use Rattle.paper.specs.FirstBytes.{reading_of, count_size}
 use Rattle.paper.specs.Metadata.{rising}
 use Rattle.paper.specs.Normal.{large_bit, largest, array_bytes, object_bytes}
 use Rattle.paper.specs.Values.{head_size_of, children_at, area_of, starts_of, ids_of, names_at, meaning_of}
-use Rattle.paper.specs.Words.{at, numbers, all_below, joined}
+use Rattle.paper.specs.Words.{at, all_below, joined}
 use Rattle.paper.specs.declared.Reading.TheVariants.{Fixed, Prefixed, Short, ObjectHead, ArrayHead, Nothing}
 use Rattle.paper.specs.declared.Reading.{Reading}
-use Rattle.containers.proofs.LayoutLaws.{count_there, ids_there, ids_same, ids_starts_length}
+use Rattle.containers.proofs.LayoutLaws.{area_small, starts_few, ids_starts_length}
 use Rattle.values.proofs.ValueLaws.{whole_some, array_container, object_container, object_id}
 use Rattle.values.proofs.VerdictLaws.{array_verdict, object_verdict}
 use Rattle.containers.specs.Children.{tiled_in, once_in}
-use Rattle.containers.specs.Layouts.{Container, LaidOut}
-use Rattle.containers.specs.declared.shape.Layout.{Layout}
+use Rattle.containers.specs.Layouts.{HeadThere}
 use Rattle.writing.specs.Ends.{EndsAt, Lies, Lying}
 use Rattle.writing.specs.Heads.{array_head, object_head}
-use Rattle.writing.specs.Rewritten.{ranks_at, shortened, parts_of, rewritten_by, rewritten}
+use Rattle.writing.specs.Rewritten.{ranks_at, shortened, parts_in, parts_of, rewritten_by, rewritten}
 use Rattle.writing.specs.Written.{Writable, Holding}
 use Rattle.writing.proofs.EndLaws.{ends_join}
 use Rattle.writing.proofs.HeadLaws.{array_split, object_split}
+use Rattle.writing.proofs.IdLaws.{ranks_length}
 use Rattle.writing.proofs.InsideLaws.{below_append, each_child}
 use Rattle.writing.proofs.PartsLaws.{in_room, parts_lie, parts_lying, parts_within, head_fits}
-use Rattle.writing.proofs.RewrittenLaws.{parts_counted, ids_counted, OneLevel, one_level, same_by, ids_by_lem, there_by, nothing_never, prefix_there}
+use Rattle.writing.proofs.RewrittenLaws.{parts_counted, OneLevel, one_level, same_by, ids_by_lem, there_by, nothing_never, prefix_there}
 
 module _ {levels : ℕ} {s ranks : List ℕ} {room end : ℕ} (ready : Writable levels s ranks room end) where
   told : OneLevel levels ready.names ranks s
@@ -89,55 +89,65 @@ module _ {levels : ℕ} {s ranks : List ℕ} {room end : ℕ} (ready : Writable 
       unfolding rewritten_by
       array_fits = fits (ArrayHead c w) e
 
-      pub array_laid : Container s c 0 w
-      array_laid = array_container s told.fills r is c w e ready.small
+      pub array_there : HeadThere s c 0 w
+      array_there = array_container s told.fills r is c w e ready.small
 
-      pub array_holding : Holding (levels - 1) s ranks c 0 w room end
-      unfolding ids_by
-      array_holding =
-          let there = and_both (tiled_in (length (area_of c 0 w s)) (children_at (area_of c 0 w s) (starts_of c 0 w s))) _
-          (sym (array_verdict (meaning_of (levels - 1) ready.names) ready.names s c w) ∙ there_by told (ArrayHead c w) (sym e ∙ is)) in
-          let ids : ids_in levels s ≡ ids_inside (ids_in (levels - 1)) (area_of c 0 w s) (children_at (area_of c 0 w s) (starts_of c 0 w s)) =
-          ids_by_lem told (ArrayHead c w) (sym e ∙ is) in
-          let all : List (List ℕ) = parts_of (rewritten (levels - 1) ranks) c 0 w s in
-          let size : length (array_bytes all) ≡ length (array_head all) + length (joined all) =
-          ap length (array_split all) ∙ length-append (array_head all) (joined all) in
-          let fit = array_fits in
-          record {
-            container = array_laid;
-            names = ready.names;
-            each = each_child (levels - 1) ready.names ranks (area_of c 0 w s) (starts_of c 0 w s) there.1 (rw ids at ready.ranked);
-            fits = omega arith;
-            within = ready.within;
-            most = ready.most;
-          }
+      -- its area and its starts
+      module _ (area starts : List ℕ) (area_is : area ≡ area_of c 0 w s) (starts_is : starts ≡ starts_of c 0 w s) where
+        array_parts : parts_of (rewritten (levels - 1) ranks) c 0 w s ≡ parts_in (rewritten (levels - 1) ranks) area starts
+        unfolding parts_of
+        array_parts = rw (area_is, starts_is)
 
-      module _ {l : Layout} (laid : LaidOut s c 0 w l) {before middle : List ℕ} {start : ℕ} (room-is : length before ≡ room)
-          (ended : EndsAt (joined (parts_of (rewritten (levels - 1) ranks) c 0 w s)) before middle end start) where
-        pub array_lying : Lying middle start end l.count
-        array_lying = parts_lying array_holding l laid room-is ended
+        pub array_holding : Holding (levels - 1) area starts ranks room end
+        unfolding ids_by
+        array_holding =
+            let there = and_both (tiled_in (length (area_of c 0 w s)) (children_at (area_of c 0 w s) (starts_of c 0 w s))) _
+            (sym (array_verdict (meaning_of (levels - 1) ready.names) ready.names s c w) ∙ there_by told (ArrayHead c w) (sym e ∙ is)) in
+            let ids : ids_in levels s ≡ ids_inside (ids_in (levels - 1)) (area_of c 0 w s) (children_at (area_of c 0 w s) (starts_of c 0 w s)) =
+            ids_by_lem told (ArrayHead c w) (sym e ∙ is) in
+            let all : List (List ℕ) = parts_in (rewritten (levels - 1) ranks) area starts in
+            let size : length (array_bytes all) ≡ length (array_head all) + length (joined all) =
+            ap length (array_split all) ∙ length-append (array_head all) (joined all) in
+            let fit : length (array_bytes all) ≤ end = rw array_parts at array_fits in
+            record {
+              names = ready.names;
+              each = rw (area_is, starts_is) (each_child (levels - 1) ready.names ranks (area_of c 0 w s) (starts_of c 0 w s) there.1 (rw ids at ready.ranked));
+              small = rw area_is (area_small s c 0 w array_there);
+              fits = omega arith;
+              within = ready.within;
+              most = ready.most;
+            }
 
-        pub array_within : end ≤ length middle
-        array_within = parts_within array_holding l laid room-is ended
+        module _ (count : ℕ) (counted : count ≡ length starts) where
+          pub array_few : count ≤ most_walked
+          array_few = rw (counted, starts_is) (starts_few s c 0 w array_there (number_at s 1 c) refl)
 
-        pub array_room : head_size_of l.count (count_size (large_bit l.count)) 0 (smallest_width (end - start)) ≤ start
-        array_room =
-            let all : List (List ℕ) = parts_of (rewritten (levels - 1) ranks) c 0 w s in
-            let counted : length all ≡ l.count = parts_counted (rewritten (levels - 1) ranks) array_laid l laid in
-            let size = ended.size in
-            let wide : end - start ≡ length (joined all) = omega arith in
-            let long = array_length all in
-            rw (wide, ← counted) (head_fits array_holding l laid room-is ended _ array_fits long)
+          module _ {before middle : List ℕ} {start : ℕ} (room-is : length before ≡ room)
+              (ended : EndsAt (joined (parts_in (rewritten (levels - 1) ranks) area starts)) before middle end start) where
+            pub array_lying : Lying middle start end count
+            array_lying = rw counted (parts_lying array_holding room-is ended)
 
-        pub array_ends : {last : List ℕ} {first : ℕ}
-            → ((all : List (List ℕ)) → Lies middle start end all → length all ≡ l.count → EndsAt (array_head all) middle last start first)
-            → EndsAt (rewritten levels ranks s) before last end first
-        unfolding rewritten_by
-        array_ends head =
-            let all : List (List ℕ) = parts_of (rewritten (levels - 1) ranks) c 0 w s in
-            let front = head all (parts_lie array_holding l laid room-is ended) (parts_counted (rewritten (levels - 1) ranks) array_laid l laid) in
-            let within = in_room array_holding l laid room-is ended in
-            rw (same (ArrayHead c w) e, array_split all) (ends_join ended within front)
+            pub array_within : end ≤ length middle
+            array_within = parts_within array_holding room-is ended
+
+            pub array_room : head_size_of count (count_size (large_bit count)) 0 (smallest_width (end - start)) ≤ start
+            array_room =
+                let all : List (List ℕ) = parts_in (rewritten (levels - 1) ranks) area starts in
+                let many : length all ≡ count = parts_counted (rewritten (levels - 1) ranks) area starts ∙ sym counted in
+                let size = ended.size in
+                let wide : end - start ≡ length (joined all) = omega arith in
+                let long = array_length all in
+                rw (wide, ← many) (head_fits array_holding room-is ended _ (rw array_parts at array_fits) long)
+
+            pub array_ends : {last : List ℕ} {first : ℕ}
+                → ((all : List (List ℕ)) → Lies middle start end all → length all ≡ count → EndsAt (array_head all) middle last start first)
+                → EndsAt (rewritten levels ranks s) before last end first
+            unfolding rewritten_by
+            array_ends head =
+                let all : List (List ℕ) = parts_in (rewritten (levels - 1) ranks) area starts in
+                let front = head all (parts_lie array_holding room-is ended) (parts_counted (rewritten (levels - 1) ranks) area starts ∙ sym counted) in
+                let within = in_room array_holding room-is ended in
+                rw (same (ArrayHead c w) e, array_parts, array_split all) (ends_join ended within front)
 
     -- ---- an object
 
@@ -146,17 +156,11 @@ module _ {levels : ℕ} {s ranks : List ℕ} {room end : ℕ} (ready : Writable 
       unfolding rewritten_by
       object_fits = fits (ObjectHead c i w) e
 
-      pub object_laid : Container s c i w
-      object_laid = object_container s told.fills r is c i w e ready.small
+      pub object_there : HeadThere s c i w
+      object_there = object_container s told.fills r is c i w e ready.small
 
       pub object_least : 1 ≤ i
       object_least = object_id s told.fills r is c i w e
-
-      pub object_start : 1 + c ≤ length s
-      object_start = (count_there s c i w object_laid).0
-
-      pub object_most : i ≤ 4
-      object_most = object_laid.id_most
 
       ids_are : ids_in levels s ≡ ids_of c i s ++ ids_inside (ids_in (levels - 1)) (area_of c i w s) (children_at (area_of c i w s) (starts_of c i w s))
       unfolding ids_by
@@ -166,63 +170,72 @@ module _ {levels : ℕ} {s ranks : List ℕ} {room end : ℕ} (ready : Writable 
           × (all_below (length ranks) (ids_inside (ids_in (levels - 1)) (area_of c i w s) (children_at (area_of c i w s) (starts_of c i w s))) ≡ true)
       ids_ranked = below_append (length ranks) (ids_of c i s) _ (rw ids_are at ready.ranked)
 
-      pub object_holding : Holding (levels - 1) s ranks c i w room end
-      object_holding =
-          let verdict = object_verdict (meaning_of (levels - 1) ready.names) ready.names s c i w
-          (ids_starts_length s c i w object_laid object_least) in
-          let first = and_both (all_below (length ready.names) (ids_of c i s) && rising (names_at ready.names (ids_of c i s))) _
-          (sym verdict ∙ there_by told (ObjectHead c i w) (sym e ∙ is)) in
-          let second = and_both (once_in (length (area_of c i w s)) (children_at (area_of c i w s) (starts_of c i w s))) _ first.1 in
-          let all : List (List ℕ) = parts_of (rewritten (levels - 1) ranks) c i w s in
-          let ids : List ℕ = ranks_at ranks (ids_of c i s) in
-          let size : length (object_bytes ids all) ≡ length (object_head ids all) + length (joined all) =
-          ap length (object_split ids all) ∙ length-append (object_head ids all) (joined all) in
-          let fit = object_fits in
-          record {
-            container = object_laid;
-            names = ready.names;
-            each = each_child (levels - 1) ready.names ranks (area_of c i w s) (starts_of c i w s) second.1 ids_ranked.1;
-            fits = omega arith;
-            within = ready.within;
-            most = ready.most;
-          }
+      -- its area, its starts and its ids
+      module _ (area starts ids : List ℕ) (area_is : area ≡ area_of c i w s) (starts_is : starts ≡ starts_of c i w s) (ids_is : ids ≡ ids_of c i s) where
+        object_parts : parts_of (rewritten (levels - 1) ranks) c i w s ≡ parts_in (rewritten (levels - 1) ranks) area starts
+        unfolding parts_of
+        object_parts = rw (area_is, starts_is)
 
-      module _ {l : Layout} (laid : LaidOut s c i w l) where
-        pub object_ids : l.count * i ≤ length (rest s (1 + c))
-        object_ids = ids_there s c i w object_laid l laid
+        -- its bytes fit
+        all_fit : length (object_bytes (ranks_at ranks ids) (parts_in (rewritten (levels - 1) ranks) area starts)) ≤ end
+        all_fit = rw (ids_is, ← object_parts) object_fits
 
-        ids_read : numbers i l.count (rest s (1 + c)) ≡ ids_of c i s
-        ids_read = ids_same s c i w object_laid l laid
+        ids_many : length ids ≡ length starts
+        ids_many = rw (ids_is, starts_is) (ids_starts_length s c i w object_there object_least)
 
-        pub object_ranked : all_below (length ranks) (numbers i l.count (rest s (1 + c))) ≡ true
-        object_ranked = rw ids_read ids_ranked.0
+        pub object_few : length ids ≤ most_walked
+        object_few = rw (ids_many, starts_is) (starts_few s c i w object_there (number_at s 1 c) refl)
+
+        pub object_ranked : all_below (length ranks) ids ≡ true
+        object_ranked = rw ids_is ids_ranked.0
+
+        pub object_holding : Holding (levels - 1) area starts ranks room end
+        object_holding =
+            let verdict = object_verdict (meaning_of (levels - 1) ready.names) ready.names s c i w
+            (ids_starts_length s c i w object_there object_least) in
+            let first = and_both (all_below (length ready.names) (ids_of c i s) && rising (names_at ready.names (ids_of c i s))) _
+            (sym verdict ∙ there_by told (ObjectHead c i w) (sym e ∙ is)) in
+            let second = and_both (once_in (length (area_of c i w s)) (children_at (area_of c i w s) (starts_of c i w s))) _ first.1 in
+            let all : List (List ℕ) = parts_in (rewritten (levels - 1) ranks) area starts in
+            let normal : List ℕ = ranks_at ranks ids in
+            let size : length (object_bytes normal all) ≡ length (object_head normal all) + length (joined all) =
+            ap length (object_split normal all) ∙ length-append (object_head normal all) (joined all) in
+            let fit = all_fit in
+            record {
+              names = ready.names;
+              each = rw (area_is, starts_is) (each_child (levels - 1) ready.names ranks (area_of c i w s) (starts_of c i w s) second.1 ids_ranked.1);
+              small = rw area_is (area_small s c i w object_there);
+              fits = omega arith;
+              within = ready.within;
+              most = ready.most;
+            }
 
         module _ {before middle : List ℕ} {start : ℕ} (room-is : length before ≡ room)
-            (ended : EndsAt (joined (parts_of (rewritten (levels - 1) ranks) c i w s)) before middle end start) where
-          pub object_lying : Lying middle start end l.count
-          object_lying = parts_lying object_holding l laid room-is ended
+            (ended : EndsAt (joined (parts_in (rewritten (levels - 1) ranks) area starts)) before middle end start) where
+          pub object_lying : Lying middle start end (length ids)
+          object_lying = rw ids_many (parts_lying object_holding room-is ended)
 
           pub object_within : end ≤ length middle
-          object_within = parts_within object_holding l laid room-is ended
+          object_within = parts_within object_holding room-is ended
 
-          pub object_room : head_size_of l.count (count_size (large_bit l.count))
-              (smallest_width (largest (ranks_at ranks (numbers i l.count (rest s (1 + c)))))) (smallest_width (end - start)) ≤ start
+          object_counted : length (parts_in (rewritten (levels - 1) ranks) area starts) ≡ length ids
+          object_counted = parts_counted (rewritten (levels - 1) ranks) area starts ∙ sym ids_many
+
+          pub object_room : head_size_of (length ids) (count_size (large_bit (length ids)))
+              (smallest_width (largest (ranks_at ranks ids))) (smallest_width (end - start)) ≤ start
           object_room =
-              let all : List (List ℕ) = parts_of (rewritten (levels - 1) ranks) c i w s in
-              let counted : length all ≡ l.count = parts_counted (rewritten (levels - 1) ranks) object_laid l laid in
+              let all : List (List ℕ) = parts_in (rewritten (levels - 1) ranks) area starts in
               let size = ended.size in
               let wide : end - start ≡ length (joined all) = omega arith in
-              let long = object_length (ranks_at ranks (ids_of c i s)) all (ids_counted (rewritten (levels - 1) ranks) object_laid ranks object_least) in
-              rw (wide, ids_read, ← counted) (head_fits object_holding l laid room-is ended _ object_fits long)
+              let long = object_length (ranks_at ranks ids) all (ranks_length ranks ids ∙ sym object_counted) in
+              rw (wide, ← object_counted) (head_fits object_holding room-is ended _ all_fit long)
 
           pub object_ends : {last : List ℕ} {first : ℕ}
-              → ((all : List (List ℕ)) → Lies middle start end all → length all ≡ l.count
-              → EndsAt (object_head (ranks_at ranks (numbers i l.count (rest s (1 + c)))) all) middle last start first)
+              → ((all : List (List ℕ)) → Lies middle start end all → length all ≡ length ids → EndsAt (object_head (ranks_at ranks ids) all) middle last start first)
               → EndsAt (rewritten levels ranks s) before last end first
           unfolding rewritten_by
           object_ends {last} {first} head =
-              let all : List (List ℕ) = parts_of (rewritten (levels - 1) ranks) c i w s in
-              let front : EndsAt (object_head (ranks_at ranks (ids_of c i s)) all) middle last start first =
-              rw ids_read at (head all (parts_lie object_holding l laid room-is ended) (parts_counted (rewritten (levels - 1) ranks) object_laid l laid)) in
-              let within = in_room object_holding l laid room-is ended in
-              rw (same (ObjectHead c i w) e, object_split (ranks_at ranks (ids_of c i s)) all) (ends_join ended within front)
+              let all : List (List ℕ) = parts_in (rewritten (levels - 1) ranks) area starts in
+              let front = head all (parts_lie object_holding room-is ended) object_counted in
+              let within = in_room object_holding room-is ended in
+              rw (same (ObjectHead c i w) e, ← ids_is, object_parts, object_split (ranks_at ranks ids) all) (ends_join ended within front)

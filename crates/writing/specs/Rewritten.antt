@@ -1,7 +1,6 @@
 -- The normal form of a lawful value, read off its own bytes: scalars as they stand, but short strings; containers from
 -- the normal forms of their children. An id is changed by its place in a table.
-use Rattle.std.specs.Prelude.{cond, ◌&&◌, List, [], ◌∷◌, map, ℕ, zero, suc, ◌+◌, ◌-◌, ◌*◌, leb, eqb, length, get_or, drop}
-use Rattle.std.proofs.Math.Option.{Option, none, some}
+use Rattle.std.specs.Prelude.{cond, ◌&&◌, List, [], ◌∷◌, map, ℕ, zero, suc, ◌+◌, ◌-◌, ◌*◌, leb, eqb, length, get_or, drop, Option, None, Some}
 use Rattle.paper.specs.FirstBytes.{reading_of}
 use Rattle.paper.specs.Normal.{array_bytes, object_bytes}
 use Rattle.paper.specs.Values.{child_extent, child_bytes, area_of, starts_of, ids_of}
@@ -19,15 +18,19 @@ shortened type s = cond (eqb type 16 && leb (length s) 68) ((4 * (length s - 5) 
 
 -- The child at a start, by what rewrites one.
 unfoldable pub sized_part : (List ℕ → List ℕ) → List ℕ → (start : ℕ) → Option ℕ → List ℕ
-sized_part inner area start none = []
-sized_part inner area start (some size) = inner (child_bytes area (record { start = start; size = size }))
+sized_part inner area start None = []
+sized_part inner area start (Some size) = inner (child_bytes area (record { start = start; size = size }))
 
 unfoldable pub part_at : (List ℕ → List ℕ) → List ℕ → (start : ℕ) → List ℕ
 part_at inner area start = sized_part inner area start (child_extent area start)
 
+-- The children at some starts of an area.
+abbrev pub parts_in : (List ℕ → List ℕ) → (area starts : List ℕ) → List (List ℕ)
+parts_in inner area starts = map (part_at inner area) starts
+
 -- A container's children in field order.
 unfoldable pub parts_of : (List ℕ → List ℕ) → (count_bytes id_bytes offset_bytes : ℕ) → List ℕ → List (List ℕ)
-parts_of inner c i w s = map (part_at inner (area_of c i w s)) (starts_of c i w s)
+parts_of inner c i w s = parts_in inner (area_of c i w s) (starts_of c i w s)
 
 unfoldable pub rewritten_by : (List ℕ → List ℕ) → (ranks : List ℕ) → Reading → List ℕ → List ℕ
 rewritten_by inner ranks (Fixed type size) s = s

@@ -1,16 +1,14 @@
 -- What a value needs to be written, and what is then written.
-use Rattle.std.specs.Prelude.{true, List, [], ◌≡◌, ℕ, ◌≤◌, ◌<◌, length, get_or}
-use Rattle.std.proofs.Math.Option.{some}
+use Rattle.std.specs.Prelude.{true, List, [], ◌≡◌, ℕ, ◌≤◌, ◌<◌, length, get_or, Some}
 use Rattle.marking.specs.Ids.{ids_in, holds}
 use Rattle.paper.specs.Bounds.{most_walked}
 use Rattle.paper.specs.Meaning.{Doc}
 use Rattle.paper.specs.Metadata.{Dictionary}
 use Rattle.paper.specs.Normal.{id_of, value_bytes}
-use Rattle.paper.specs.Values.{child_extent, child_bytes, area_of, starts_of, meaning_of}
+use Rattle.paper.specs.Values.{child_extent, child_bytes, meaning_of}
 use Rattle.paper.specs.Words.{is_there, all_below, joined}
-use Rattle.containers.specs.Layouts.{Container}
 use Rattle.writing.specs.Ends.{EndsAt}
-use Rattle.writing.specs.Rewritten.{parts_of, rewritten}
+use Rattle.writing.specs.Rewritten.{parts_in, rewritten}
 
 -- A table has, for each of some ids of a dictionary, the id of the same name in the normal one.
 abbrev pub Right : Dictionary → Dictionary → List ℕ → List ℕ → Type 0
@@ -21,7 +19,7 @@ pub record Ready (levels : ℕ) (s ranks : List ℕ) (room end : ℕ) : Type 0 w
   pub names : Dictionary
   pub normal : Dictionary
   pub d : Doc
-  pub meant : meaning_of levels names s ≡ some d
+  pub meant : meaning_of levels names s ≡ Some d
   pub bytes : (i : ℕ) → get_or s i 0 < 256
   pub small : length s ≤ most_walked
   pub ranked : all_below (length ranks) (ids_in levels s) ≡ true
@@ -47,16 +45,15 @@ pub record Writable (levels : ℕ) (s ranks : List ℕ) (room end : ℕ) : Type 
 -- A child that is there and lawful inside.
 pub record WritableChild (levels : ℕ) (names : Dictionary) (ranks area : List ℕ) (start : ℕ) : Type 0 where
   pub size : ℕ
-  pub long : child_extent area start ≡ some size
+  pub long : child_extent area start ≡ Some size
   pub meant : is_there (meaning_of levels names (child_bytes area (record { start = start; size = size }))) ≡ true
   pub ranked : all_below (length ranks) (ids_in levels (child_bytes area (record { start = start; size = size }))) ≡ true
 
--- A container whose children can be written before a place of a buffer.
-pub record Holding (levels : ℕ) (s ranks : List ℕ) (counted id width room end : ℕ) : Type 0 where
-  pub container : Container s counted id width
+-- Children at some starts of an area that can be written before a place of a buffer.
+pub record Holding (levels : ℕ) (area starts ranks : List ℕ) (room end : ℕ) : Type 0 where
   pub names : Dictionary
-  pub each : (k : ℕ) → k < length (starts_of counted id width s)
-      → WritableChild levels names ranks (area_of counted id width s) (get_or (starts_of counted id width s) k 0)
-  pub fits : length (joined (parts_of (rewritten levels ranks) counted id width s)) ≤ end
+  pub each : (k : ℕ) → k < length starts → WritableChild levels names ranks area (get_or starts k 0)
+  pub small : length area ≤ most_walked
+  pub fits : length (joined (parts_in (rewritten levels ranks) area starts)) ≤ end
   pub within : end ≤ room
   pub most : end ≤ most_walked

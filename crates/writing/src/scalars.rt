@@ -19,10 +19,7 @@ pub fn prefixed(code: usize, s: &[u8], out: &mut [u8], end: usize) -> usize
     requires { (5 ≤ length s.now) × (length (shortened code s.now) ≤ end) × (end ≤ length out.old) }
     ensures { EndsAt (shortened code s.now) out.old out.new end result }
 {
-    if code != 16 {
-        return copied(s, out, end);
-    }
-    if 68 < s.len() {
+    if code != 16 || 68 < s.len() {
         return copied(s, out, end);
     }
     let text = 5;

@@ -1,7 +1,7 @@
 -- What is typed and what is left over: a column has a scalar exactly when it takes it, and a leftover has no field that its node
 -- names. What holds wherever a document is cut, and of a missing field, holds at every place of a row: so the column rule does.
+use Rattle.std.specs.Prelude.{Option, None, Some}
 use mathlib.Core.Bool.{Bool, true, false, cond}
-use mathlib.Core.Option.{Option, none, some}
 use mathlib.Core.Path.{◌≡◌, refl}
 use Rattle.paper.specs.Cells.{takes}
 use Rattle.paper.specs.Meaning.{Scalar, Doc, null, scalar, array, object, Docs, no_docs, doc, Fields, no_fields, field}
@@ -81,8 +81,8 @@ module _ (test : Schema → Place → Bool) (missing : (node : Schema) → test 
   every_field_lem : (node : Schema) → ((d : Doc) → everywhere test node (cut node d) ≡ true) → (x : Option Doc)
       → everywhere test node (cut_field (λ d. cut node d) x) ≡ true
   unfolding cut_field
-  every_field_lem node all none = no_field_everywhere node
-  every_field_lem node all (some d) = all d
+  every_field_lem node all None = no_field_everywhere node
+  every_field_lem node all (Some d) = all d
 
   rest_everywhere : (inside : Typed → Bool) (fs : Fields) (t : Typed) → inside t ≡ true → inside_lawful inside (with_rest fs t) ≡ true
   unfolding with_rest inside_lawful

@@ -1,8 +1,8 @@
 -- An object's fields: what holds of each holds of the one of a name, and the unnamed ones rise, are in the dictionary and pass
 -- a test as all do.
+use Rattle.std.specs.Prelude.{None, Some}
 use mathlib.Core.Bool.{Bool, true, false, cond, ◌&&◌, ◌||◌}
 use mathlib.Core.List.{List}
-use mathlib.Core.Option.{none, some, some-injective}
 use mathlib.Core.Path.{◌≡◌, refl, sym}
 use Prim.Native.Nat.{ℕ}
 use Rattle.forms.specs.WellFormed.{all_members, names_there, field_names_there}
@@ -16,23 +16,24 @@ use Rattle.paper.specs.Rules.{any_named}
 use Rattle.paper.specs.Shredding.{unnamed}
 use Rattle.paper.specs.Standing.{field_at}
 use Rattle.paper.specs.Words.{is_there, same, among}
+use Rattle.std.proofs.lemmas.Option.{same_Some}
 
 -- ---- the field of a name
 
 module _ (All : Fields → Type 0) (One : List ℕ → Doc → Type 0)
     (each : (name : List ℕ) (d : Doc) (fs : Fields) → All (field name d fs) → One name d × All fs) where
-  pub found_holds : (name : List ℕ) (fs : Fields) (d : Doc) → All fs → field_at name fs ≡ some d → One name d
+  pub found_holds : (name : List ℕ) (fs : Fields) (d : Doc) → All fs → field_at name fs ≡ Some d → One name d
   unfolding field_at is_there
-  found_holds name no_fields d all found = never (sym (some_there none found))
+  found_holds name no_fields d all found = never (sym (some_there None found))
   found_holds name (field first e fs) d all found =
       let parts = each first e fs all in go (same first name) refl found parts.0 (found_holds name fs d parts.1)
     where
-      go : (b : Bool) → same first name ≡ b → cond b (some e) (field_at name fs) ≡ some d → One first e → (field_at name fs ≡ some d → One name d) → One name d
-      go true is found_Here here rest = rw (← same_is first name is, ← some-injective e d found_Here) here
+      go : (b : Bool) → same first name ≡ b → cond b (Some e) (field_at name fs) ≡ Some d → One first e → (field_at name fs ≡ Some d → One name d) → One name d
+      go true is found_Here here rest = rw (← same_is first name is, ← same_Some e d found_Here) here
       go false is found_Here here rest = rest found_Here
 
 -- In the dictionary are its name and its names.
-pub field_there : (names : Dictionary) (name : List ℕ) (fs : Fields) (d : Doc) → field_names_there names fs ≡ true → field_at name fs ≡ some d
+pub field_there : (names : Dictionary) (name : List ℕ) (fs : Fields) (d : Doc) → field_names_there names fs ≡ true → field_at name fs ≡ Some d
     → (among name names ≡ true) × (names_there names d ≡ true)
 unfolding field_names_there
 field_there names =

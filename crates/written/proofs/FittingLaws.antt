@@ -1,7 +1,7 @@
 -- Into what fits: an array's elements and an object's members with one level less, and an object's unnamed fields as an object.
+use Rattle.std.specs.Prelude.{Some}
 use mathlib.Core.Bool.{true, ◌&&◌}
 use mathlib.Core.List.{List, map}
-use mathlib.Core.Option.{some}
 use mathlib.Core.Path.{◌≡◌, sym}
 use Prim.Native.Nat.{ℕ, zero, suc, ◌+◌, ◌-◌, ◌^◌, ◌≤◌}
 use native.Mathlib.Omega.{arith}
@@ -94,7 +94,7 @@ module _ {names : Dictionary} where
     other_members_fit = let parts = member_parts in let size = parts.5 in record { good = parts.1; there = parts.4; short = omega arith }
 
   -- A field fits, wherever it stands.
-  pub member_fits : {levels : ℕ} (name : List ℕ) (fs : Fields) (d : Doc) → MembersFit names levels fs → field_at name fs ≡ some d → Fits names levels d
+  pub member_fits : {levels : ℕ} (name : List ℕ) (fs : Fields) (d : Doc) → MembersFit names levels fs → field_at name fs ≡ Some d → Fits names levels d
   member_fits {levels} =
       found_holds (MembersFit names levels) (λ name d. Fits names levels d) (λ name d fs fit. (first_member_fits fit, other_members_fit fit))
 

@@ -1,8 +1,8 @@
 -- What a document is cut into breaks no rule: a leftover beside something typed is an object of fields that its node does not
 -- name, no element is empty, and a field that is present has its name in the dictionary.
+use Rattle.std.specs.Prelude.{Option, None, Some}
 use mathlib.Core.Bool.{Bool, true, false, cond, not, ◌&&◌, ◌||◌, and-false}
 use mathlib.Core.List.{List}
-use mathlib.Core.Option.{Option, none, some}
 use mathlib.Core.Path.{◌≡◌, refl}
 use Prim.Native.Nat.{ℕ}
 use Rattle.forms.specs.WellFormed.{names_there, all_names_there, field_names_there}
@@ -10,7 +10,7 @@ use Rattle.paper.proofs.WordLaws.{and_both}
 use Rattle.paper.specs.Cells.{takes}
 use Rattle.paper.specs.Meaning.{Scalar, Doc, null, scalar, array, object, Docs, no_docs, doc, Fields, no_fields, field}
 use Rattle.paper.specs.Metadata.{Dictionary}
-use Rattle.paper.specs.Rows.{empty, leftover, typed, both, Typed, cell, inner}
+use Rattle.paper.specs.Rows.{empty, leftover, typed, Typed, cell, inner}
 use Rattle.paper.specs.Rules.{has_leftover, has_typed, leftover_of, is_object, is_array, is_fields_node, is_list_node, named_by, any_named, has_any, breaks_a, breaks_b, breaks_c, breaks_d, breaks_e, breaks_f, inside_lawful, place_lawful_by, cell_lawful, inner_lawful, elements_lawful, place_lawful, fields_lawful}
 use Rattle.paper.specs.Schemas.{Column, Schema, leftover_only, column, list, fields, SchemaFields, none_named, named, column_names}
 use Rattle.paper.specs.Shredding.{unnamed, with_rest, cut_scalar, cut_all, cut_field, cut, cut_fields}
@@ -98,11 +98,11 @@ module _ (names : Dictionary) where
   no_field_lawful (fields columns) = empty_lawful _ (fields columns)
 
   field_lawful : (name : List ℕ) (node : Schema) → ((d : Doc) → names_there names d ≡ true → place_lawful node names (cut node d) ≡ true)
-      → (x : Option Doc) → ((d : Doc) → x ≡ some d → (among name names ≡ true) × (names_there names d ≡ true))
+      → (x : Option Doc) → ((d : Doc) → x ≡ Some d → (among name names ≡ true) × (names_there names d ≡ true))
       → (let p = cut_field (λ d. cut node d) x in not (breaks_f names name p) && place_lawful node names p ≡ true)
   unfolding cut_field breaks_f has_leftover has_typed
-  field_lawful name node each none there = no_field_lawful node
-  field_lawful name node each (some d) there =
+  field_lawful name node each None there = no_field_lawful node
+  field_lawful name node each (Some d) there =
       let found = there d refl in rw (cut_present node d, found.0, each d found.1)
 
   mutual

@@ -1,7 +1,7 @@
 -- An object's named fields, in the order of the names, and its unnamed ones put among them give back all of it.
+use Rattle.std.specs.Prelude.{None, Some}
 use mathlib.Core.Bool.{Bool, true, false, cond, ◌||◌}
 use mathlib.Core.List.{List, [], ◌∷◌}
-use mathlib.Core.Option.{none, some}
 use mathlib.Core.Path.{◌≡◌, refl, sym, ap, ◌∙◌}
 use Prim.Native.Nat.{ℕ}
 use Rattle.clashes.proofs.SharedLaws.{same_sym}
@@ -32,13 +32,13 @@ unfolding named_of among
 named_none no_fields = refl
 named_none (field name d fs) = named_none fs
 
-not_found : (name : List ℕ) (fs : Fields) → among name (field_names fs) ≡ false → field_at name fs ≡ none
+not_found : (name : List ℕ) (fs : Fields) → among name (field_names fs) ≡ false → field_at name fs ≡ None
 unfolding among field_names field_at
 not_found name no_fields absent = refl
 not_found name (field first d fs) absent = go (same first name) absent (not_found name fs)
   where
-    go : (b : Bool) → b || among name (field_names fs) ≡ false → (among name (field_names fs) ≡ false → field_at name fs ≡ none)
-        → cond b (some d) (field_at name fs) ≡ none
+    go : (b : Bool) → b || among name (field_names fs) ≡ false → (among name (field_names fs) ≡ false → field_at name fs ≡ None)
+        → cond b (Some d) (field_at name fs) ≡ None
     go true e rest = never e
     go false e rest = rest e
 
@@ -60,16 +60,16 @@ named_more name taken (field first d fs) rise rises =
   where
     go : (a b : Bool) → same name first ≡ a → among first taken ≡ b → named_of (name ∷ taken) fs ≡ add_field name (field_at name fs) (named_of taken fs)
         → cond (a || b) (field first d (named_of (name ∷ taken) fs)) (named_of (name ∷ taken) fs)
-        ≡ add_field name (cond (same first name) (some d) (field_at name fs)) (cond b (field first d (named_of taken fs)) (named_of taken fs))
+        ≡ add_field name (cond (same first name) (Some d) (field_at name fs)) (cond b (field first d (named_of taken fs)) (named_of taken fs))
     go true true e f rest = never (sym f ∙ ap (λ (n : List ℕ). among n taken) (sym (same_is name first e)) ∙ rising_once name taken rise)
     go true false e f rest =
         let is : name ≡ first = same_is name first e in
         let here : same first name ≡ true = rw is (same_refl first) in
-        let gone : field_at name fs ≡ none = not_found name fs (rw is (rising_once first (field_names fs) rises)) in
+        let gone : field_at name fs ≡ None = not_found name fs (rw is (rising_once first (field_names fs) rises)) in
         rw (rest, here, gone) (ap (λ (n : List ℕ). field n d (named_of taken fs)) (sym is))
     go false true e f rest =
         let lower : before name first ≡ true = rising_first name taken first rise f in
-        let gone : field_at name fs ≡ none = not_found name fs (before_absent name first (field_names fs) lower rises) in
+        let gone : field_at name fs ≡ None = not_found name fs (before_absent name first (field_names fs) lower rises) in
         rw (rest, same_sym name first e, gone)
     go false false e f rest = rw (same_sym name first e) rest
 

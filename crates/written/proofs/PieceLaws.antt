@@ -1,6 +1,6 @@
 -- Places that are written are read back as their pieces, and a place's parts as what it holds, by what reads a typed body.
+use Rattle.std.specs.Prelude.{Option, Some}
 use mathlib.Core.List.{List, [], ◌∷◌, ◌++◌}
-use mathlib.Core.Option.{Option, some}
 use mathlib.Core.Path.{◌≡◌, refl, ap, ◌∙◌}
 use Prim.Native.Nat.{ℕ, ◌+◌, ◌<◌}
 use native.Mathlib.Omega.{arith}
@@ -45,7 +45,7 @@ module _ (names : Dictionary) where
   unfolding places_bytes
   places_length p ps = omega (arith, length-append (place_bytes names p) (places_bytes names ps), place_length p)
 
-  places_pieces : (ps : Places) → length (places_bytes names ps) < 65536 → pieces_of (places_bytes names ps) ≡ some (place_pieces ps)
+  places_pieces : (ps : Places) → length (places_bytes names ps) < 65536 → pieces_of (places_bytes names ps) ≡ Some (place_pieces ps)
   unfolding places_bytes place_pieces pieces_of pieces_within piece_then and_then
   places_pieces no_places fits = refl
   places_pieces (place p ps) fits =
@@ -56,26 +56,26 @@ module _ (names : Dictionary) where
   -- ---- what a place holds
 
   module _ (levels : ℕ) (right : List ℕ → Option Typed) where
-    pub empty_back : place_within levels names right (place_piece empty) ≡ some empty
+    pub empty_back : place_within levels names right (place_piece empty) ≡ Some empty
     unfolding place_within place_by place_parts place_body pieces_of pieces_within given and_then
     empty_back = refl
 
-    pub leftover_back : (d : Doc) → leftover_meaning levels names (value_bytes names d) ≡ some d → length (place_body (leftover d)) < 65536
-        → place_within levels names right (place_piece (leftover d)) ≡ some (leftover d)
+    pub leftover_back : (d : Doc) → leftover_meaning levels names (value_bytes names d) ≡ Some d → length (place_body (leftover d)) < 65536
+        → place_within levels names right (place_piece (leftover d)) ≡ Some (leftover d)
     unfolding place_within place_by place_parts place_body given and_then
     leftover_back d means fits =
         let size = length_frame 0x41 (value_bytes names d) in
         rw (frame_alone 0x41 (value_bytes names d) (omega arith), means)
 
-    pub typed_back : (t : Typed) → right (typed_bytes names t) ≡ some t → length (place_body (typed t)) < 65536
-        → place_within levels names right (place_piece (typed t)) ≡ some (typed t)
+    pub typed_back : (t : Typed) → right (typed_bytes names t) ≡ Some t → length (place_body (typed t)) < 65536
+        → place_within levels names right (place_piece (typed t)) ≡ Some (typed t)
     unfolding place_within place_by place_parts place_body given and_then
     typed_back t means fits =
         let size = length_frame 0x42 (typed_bytes names t) in
         rw (frame_alone 0x42 (typed_bytes names t) (omega arith), means)
 
-    pub both_back : (d : Doc) (t : Typed) → leftover_meaning levels names (value_bytes names d) ≡ some d → right (typed_bytes names t) ≡ some t
-        → length (place_body (both d t)) < 65536 → place_within levels names right (place_piece (both d t)) ≡ some (both d t)
+    pub both_back : (d : Doc) (t : Typed) → leftover_meaning levels names (value_bytes names d) ≡ Some d → right (typed_bytes names t) ≡ Some t
+        → length (place_body (both d t)) < 65536 → place_within levels names right (place_piece (both d t)) ≡ Some (both d t)
     unfolding place_within place_by place_parts place_body given and_then piece_then
     both_back d t left_means means fits =
         let left_size = length_frame 0x41 (value_bytes names d) in
@@ -88,7 +88,7 @@ module _ (names : Dictionary) where
           means,
         )
 
-  pub inner_back : (read : List Piece → Option Places) (ps : Places) → read (place_pieces ps) ≡ some ps → length (places_bytes names ps) < 65536
-      → inner_body read (typed_bytes names (inner ps)) ≡ some (inner ps)
+  pub inner_back : (read : List Piece → Option Places) (ps : Places) → read (place_pieces ps) ≡ Some ps → length (places_bytes names ps) < 65536
+      → inner_body read (typed_bytes names (inner ps)) ≡ Some (inner ps)
   unfolding inner_body typed_bytes and_then
   inner_back read ps means fits = rw (places_pieces ps fits, means)

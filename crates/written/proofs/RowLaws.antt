@@ -1,9 +1,9 @@
 -- The row of a document is read back, breaks no rule and means the document. So it is rebuilt to the normal form, and two rows under
 -- one schema are the same exactly when their documents are.
+use Rattle.std.specs.Prelude.{Some, Ok}
 use mathlib.Core.Bool.{true}
 use mathlib.Core.List.{List}
 use mathlib.Core.Logic.{◌↔◌}
-use mathlib.Core.Option.{some, some-injective}
 use mathlib.Core.Path.{◌≡◌, sym, ap, ◌∙◌}
 use Prim.Native.Nat.{ℕ, ◌+◌, ◌≤◌}
 use native.Mathlib.Omega.{arith}
@@ -20,7 +20,7 @@ use Rattle.paper.specs.Metadata.{Dictionary}
 use Rattle.paper.specs.Normal.{names_used, metadata_bytes, normal_form}
 use Rattle.paper.specs.Operations.{writable, written, row_judged, rebuild_outcome}
 use Rattle.paper.specs.Rebuilding.{or_null, row_meaning}
-use Rattle.paper.specs.Refusals.{Outcome, reached, require, obtain}
+use Rattle.paper.specs.Refusals.{Outcome, require, obtain}
 use Rattle.paper.specs.Rows.{Row, row_parts, row_of}
 use Rattle.paper.specs.Rules.{row_lawful}
 use Rattle.paper.specs.Schemas.{Schema, schema_of}
@@ -31,6 +31,7 @@ use Rattle.written.proofs.MeaningLaws.{cut_means}
 use Rattle.written.proofs.PieceLaws.{place_body, place_frame, place_length}
 use Rattle.written.proofs.PlaceLaws.{place_back}
 use Rattle.written.specs.Fitting.{Fits, RowFits, cut_row}
+use Rattle.std.proofs.lemmas.Option.{same_Some}
 
 -- It breaks no rule, whatever the document.
 pub row_lawful_lem : (node : Schema) (d : Doc) → row_lawful node (cut_row node d) ≡ true
@@ -58,7 +59,7 @@ module _ (node : Schema) (d : Doc) (fits : RowFits node d) where
         place_length (names_used d) (cut node d),
       )
 
-  pub row_back : row_of node (row_bytes node d) ≡ some (cut_row node d)
+  pub row_back : row_of node (row_bytes node d) ≡ Some (cut_row node d)
   unfolding row_of row_bytes row_parts given and_then piece_then normal_form
   row_back =
       let names : Dictionary = names_used d in
@@ -80,7 +81,7 @@ module _ (node : Schema) (d : Doc) (fits : RowFits node d) where
   unfolding row_meaning or_null
   row_means = rw (cut_means node most_levels d fits.node_good fits.good)
 
-  module _ (schema : List ℕ) (schema_fits : length schema ≤ most_schema) (is : schema_of schema ≡ some node) where
+  module _ (schema : List ℕ) (schema_fits : length schema ≤ most_schema) (is : schema_of schema ≡ Some node) where
     -- It passes every judgement, whatever comes of it, ..
     pub row_judged_lem : {A : Type 0} (next : Schema → Row → Outcome A) → row_judged schema (row_bytes node d) next ≡ next node (cut_row node d)
     unfolding row_judged require obtain
@@ -88,7 +89,7 @@ module _ (node : Schema) (d : Doc) (fits : RowFits node d) where
         rw (le-leb (length schema) most_schema schema_fits, le-leb (length (row_bytes node d)) most_row fits.row_fits, is, row_back, row_lawful_lem node d)
 
     -- .. and is rebuilt to the normal form of its document.
-    pub row_rebuilt : rebuild_outcome schema (row_bytes node d) ≡ reached (normal_form d)
+    pub row_rebuilt : rebuild_outcome schema (row_bytes node d) ≡ Ok (normal_form d)
     unfolding rebuild_outcome written writable require
     row_rebuilt =
         row_judged_lem (λ node parsed. written (row_meaning node parsed))
@@ -101,5 +102,5 @@ same_row node d e fits-d fits-e = (equal, ap (row_bytes node))
     equal : row_bytes node d ≡ row_bytes node e → d ≡ e
     equal same =
         let rows : cut_row node d ≡ cut_row node e =
-        some-injective (cut_row node d) (cut_row node e) (sym (row_back node d fits-d) ∙ ap (row_of node) same ∙ row_back node e fits-e) in
+        same_Some (cut_row node d) (cut_row node e) (sym (row_back node d fits-d) ∙ ap (row_of node) same ∙ row_back node e fits-e) in
         sym (row_means node d fits-d) ∙ ap (row_meaning node) rows ∙ row_means node e fits-e

@@ -1,9 +1,9 @@
 -- What shred writes: it is rebuilt to what normalise writes of the same document, what is in normal form is shredded to the same row,
 -- and rows under one schema are the same exactly when their documents mean the same.
+use Rattle.std.specs.Prelude.{Some, Ok}
 use mathlib.Core.Bool.{Bool, ◌&&◌, and-true}
 use mathlib.Core.List.{List}
 use mathlib.Core.Logic.{◌↔◌}
-use mathlib.Core.Option.{some, some-injective}
 use mathlib.Core.Path.{◌≡◌, refl, sym, ap, ◌∙◌}
 use Prim.Native.Nat.{ℕ, ◌≤◌, ◌<◌}
 use native.Mathlib.Omega.{arith}
@@ -17,7 +17,7 @@ use Rattle.paper.specs.Meaning.{Doc}
 use Rattle.paper.specs.Metadata.{dictionary_of}
 use Rattle.paper.specs.Normal.{Document, normal_form}
 use Rattle.paper.specs.Operations.{judged, value_judged, document_fits, check_outcome, writable, normalise_outcome, row_outcome, shred_outcome, rebuild_outcome}
-use Rattle.paper.specs.Refusals.{Outcome, reached, require, obtain}
+use Rattle.paper.specs.Refusals.{Outcome, require, obtain}
 use Rattle.paper.specs.Rows.{row_of}
 use Rattle.paper.specs.Schemas.{Schema, schema_of}
 use Rattle.paper.specs.Shredding.{row_bytes}
@@ -26,6 +26,7 @@ use Rattle.paper.specs.declared.Refusal.TheVariants.{TooLong, BadSchema}
 use Rattle.schemas.proofs.GoodLaws.{schema_good}
 use Rattle.written.proofs.RowLaws.{row_back, row_rebuilt, same_row}
 use Rattle.written.specs.Fitting.{RowFits, cut_row}
+use Rattle.std.proofs.lemmas.Option.{same_Some}
 
 -- What `shred` has seen of a document and a schema that it accepts.
 pub record Shredded (schema metadata value row : List ℕ) : Type 0 where
@@ -33,11 +34,11 @@ pub record Shredded (schema metadata value row : List ℕ) : Type 0 where
   pub form : Document
   pub document : Accepted metadata value form
   pub schema_fits : length schema ≤ most_schema
-  pub schema_is : schema_of schema ≡ some node
+  pub schema_is : schema_of schema ≡ Some node
   pub row_fits : length (row_bytes node document.d) ≤ most_row
   pub row_is : row_bytes node document.d ≡ row
 
-pub shredded : (schema metadata value row : List ℕ) → shred_outcome schema metadata value ≡ reached row → Shredded schema metadata value row
+pub shredded : (schema metadata value row : List ℕ) → shred_outcome schema metadata value ≡ Ok row → Shredded schema metadata value row
 unfolding shred_outcome row_outcome judged value_judged document_fits writable normal_form
 shredded schema metadata value row e =
     let fitting : Bool = leb (length metadata) most_metadata && leb (length value) most_value in
@@ -72,7 +73,7 @@ shredded schema metadata value row e =
     }
 
 module _ {schema metadata value row : List ℕ} (s : Shredded schema metadata value row) where
-  shredded_means : check_outcome metadata value ≡ reached s.document.d
+  shredded_means : check_outcome metadata value ≡ Ok s.document.d
   shredded_means = accepted_means metadata value s.form s.document
 
   module _ (bytes : (i : ℕ) → get_or metadata i 0 < 256) where
@@ -91,16 +92,16 @@ module _ {schema metadata value row : List ℕ} (s : Shredded schema metadata va
         }
 
     -- It is read back, place by place.
-    pub shredded_back : row_of s.node row ≡ some (cut_row s.node s.document.d)
+    pub shredded_back : row_of s.node row ≡ Some (cut_row s.node s.document.d)
     shredded_back = ap (row_of s.node) (sym s.row_is) ∙ row_back s.node s.document.d shredded_fits
 
     shredded_rebuilt : rebuild_outcome schema row ≡ normalise_outcome metadata value
     shredded_rebuilt =
         ap (rebuild_outcome schema) (sym s.row_is) ∙ row_rebuilt s.node s.document.d shredded_fits schema s.schema_fits s.schema_is
-        ∙ ap reached s.document.written_is ∙ sym (accepts metadata value s.form s.document)
+        ∙ ap Ok s.document.written_is ∙ sym (accepts metadata value s.form s.document)
 
 -- It is rebuilt to the document's normal form.
-pub shred_rebuilt : (schema metadata value row : List ℕ) → ((i : ℕ) → get_or metadata i 0 < 256) → shred_outcome schema metadata value ≡ reached row
+pub shred_rebuilt : (schema metadata value row : List ℕ) → ((i : ℕ) → get_or metadata i 0 < 256) → shred_outcome schema metadata value ≡ Ok row
     → rebuild_outcome schema row ≡ normalise_outcome metadata value
 shred_rebuilt schema metadata value row bytes e = shredded_rebuilt (shredded schema metadata value row e) bytes
 
@@ -112,7 +113,7 @@ shredded_by schema d =
     require (leb (length schema) most_schema) TooLong
     (obtain (schema_of schema) BadSchema λ node. row_outcome node d)
 
-means_shredded : (schema metadata value : List ℕ) (d : Doc) → check_outcome metadata value ≡ reached d → shred_outcome schema metadata value ≡ shredded_by schema d
+means_shredded : (schema metadata value : List ℕ) (d : Doc) → check_outcome metadata value ≡ Ok d → shred_outcome schema metadata value ≡ shredded_by schema d
 unfolding check_outcome shred_outcome shredded_by judged value_judged obtain
 means_shredded schema metadata value d e =
     let first = require_reached _ (document_fits metadata value) _ e in
@@ -121,33 +122,33 @@ means_shredded schema metadata value d e =
     rw (first.0, and-true (leb (length schema) most_schema), second.1, third.1) (ap (shredded_by schema) (same_reached third.2))
 
 -- So documents that mean the same have the same outcome, refusals too.
-pub same_shred : (schema metadata value metadata' value' : List ℕ) (d d' : Doc) → check_outcome metadata value ≡ reached d
-    → check_outcome metadata' value' ≡ reached d' → d ≡ d' → shred_outcome schema metadata value ≡ shred_outcome schema metadata' value'
+pub same_shred : (schema metadata value metadata' value' : List ℕ) (d d' : Doc) → check_outcome metadata value ≡ Ok d
+    → check_outcome metadata' value' ≡ Ok d' → d ≡ d' → shred_outcome schema metadata value ≡ shred_outcome schema metadata' value'
 same_shred schema metadata value metadata' value' d d' means means' same =
     means_shredded schema metadata value d means ∙ ap (shredded_by schema) same ∙ sym (means_shredded schema metadata' value' d' means')
 
 -- What is in normal form comes to the same under any schema; so it is shredded to the same row.
-pub shred_normal : (metadata value : List ℕ) (n : Document) → ((i : ℕ) → get_or metadata i 0 < 256) → normalise_outcome metadata value ≡ reached n
+pub shred_normal : (metadata value : List ℕ) (n : Document) → ((i : ℕ) → get_or metadata i 0 < 256) → normalise_outcome metadata value ≡ Ok n
     → (schema : List ℕ) → shred_outcome schema n.metadata n.value ≡ shred_outcome schema metadata value
 shred_normal metadata value n bytes e schema =
     let a : Accepted metadata value n = accepted metadata value n e in
     same_shred schema n.metadata n.value metadata value a.d a.d (normal_means metadata value n a bytes) (accepted_means metadata value n a) refl
 
 pub shred_again : (schema metadata value row : List ℕ) (n : Document) → ((i : ℕ) → get_or metadata i 0 < 256)
-    → shred_outcome schema metadata value ≡ reached row → normalise_outcome metadata value ≡ reached n
-    → shred_outcome schema n.metadata n.value ≡ reached row
+    → shred_outcome schema metadata value ≡ Ok row → normalise_outcome metadata value ≡ Ok n
+    → shred_outcome schema n.metadata n.value ≡ Ok row
 shred_again schema metadata value row n bytes e normal = shred_normal metadata value n bytes normal schema ∙ e
 
 -- Two documents under one schema have the same row exactly when they mean the same.
 pub same_shredded : (schema metadata value metadata' value' row row' : List ℕ) → ((i : ℕ) → get_or metadata i 0 < 256)
-    → ((i : ℕ) → get_or metadata' i 0 < 256) → shred_outcome schema metadata value ≡ reached row → shred_outcome schema metadata' value' ≡ reached row'
-    → (d d' : Doc) → check_outcome metadata value ≡ reached d → check_outcome metadata' value' ≡ reached d' → (row ≡ row') ↔ (d ≡ d')
+    → ((i : ℕ) → get_or metadata' i 0 < 256) → shred_outcome schema metadata value ≡ Ok row → shred_outcome schema metadata' value' ≡ Ok row'
+    → (d d' : Doc) → check_outcome metadata value ≡ Ok d → check_outcome metadata' value' ≡ Ok d' → (row ≡ row') ↔ (d ≡ d')
 same_shredded schema metadata value metadata' value' row row' bytes bytes' e e' d d' means means' =
     let s : Shredded schema metadata value row = shredded schema metadata value row e in
     let t : Shredded schema metadata' value' row' = shredded schema metadata' value' row' e' in
     let first : s.document.d ≡ d = same_reached (sym (shredded_means s) ∙ means) in
     let second : t.document.d ≡ d' = same_reached (sym (shredded_means t) ∙ means') in
-    let node : t.node ≡ s.node = some-injective t.node s.node (sym t.schema_is ∙ s.schema_is) in
+    let node : t.node ≡ s.node = same_Some t.node s.node (sym t.schema_is ∙ s.schema_is) in
     let fits : RowFits s.node d = rw first at (shredded_fits s bytes) in
     let fits' : RowFits s.node d' = rw (node, second) at (shredded_fits t bytes') in
     let row_is : row_bytes s.node d ≡ row = rw first at s.row_is in

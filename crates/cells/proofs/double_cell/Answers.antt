@@ -1,13 +1,10 @@
--- `double_cell`: a NaN's pattern lies above infinity's.
-use lib.Ieee.{binary64}
-use Rattle.cells.proofs.FloatLaws.{nan_above, nan_not}
+-- `double_cell`: by whether the bits are a NaN's.
+use Rattle.cells.proofs.FloatLaws.{by_number, by_bits}
+use Rattle.paper.specs.declared.Cell.TheVariants.{Double, DoubleNan}
 use Rattle.cells.proofs.double_cell.Goals as goal
 
-pub returns-then-bits-gt9218868437227405312 : goal.returns-then-bits-gt9218868437227405312
-returns-then-bits-gt9218868437227405312 c = rw (nan_above binary64 c.args.bits c.if-bits-gt9218868437227405312.true)
+pub returns-in-Some : goal.returns-in-Some
+returns-in-Some c = by_number _ _ c.double.ensures Double (DoubleNan c.args.bits) c.in-Some.is
 
-pub float_from_bits-result : goal.float_from_bits-result
-float_from_bits-result c = rw (nan_not binary64 c.args.bits c.if-bits-gt9218868437227405312.false) tt
-
-pub returns : goal.returns
-returns c = rw (nan_not binary64 c.args.bits c.if-bits-gt9218868437227405312.false)
+pub returns-in-None : goal.returns-in-None
+returns-in-None c = by_bits _ _ c.double.ensures Double (DoubleNan c.args.bits) c.in-None.is

@@ -1,13 +1,10 @@
--- `float_cell`: a NaN's pattern lies above infinity's.
-use lib.Ieee.{binary32}
-use Rattle.cells.proofs.FloatLaws.{nan_above, nan_not}
+-- `float_cell`: by whether the bits are a NaN's.
+use Rattle.cells.proofs.FloatLaws.{by_number, by_bits}
+use Rattle.paper.specs.declared.Cell.TheVariants.{Float, FloatNan}
 use Rattle.cells.proofs.float_cell.Goals as goal
 
-pub returns-then-bits-gt2139095040 : goal.returns-then-bits-gt2139095040
-returns-then-bits-gt2139095040 c = rw (nan_above binary32 c.args.bits c.if-bits-gt2139095040.true)
+pub returns-in-Some : goal.returns-in-Some
+returns-in-Some c = by_number _ _ c.float.ensures Float (FloatNan c.args.bits) c.in-Some.is
 
-pub float_from_bits-result : goal.float_from_bits-result
-float_from_bits-result c = rw (nan_not binary32 c.args.bits c.if-bits-gt2139095040.false) tt
-
-pub returns : goal.returns
-returns c = rw (nan_not binary32 c.args.bits c.if-bits-gt2139095040.false)
+pub returns-in-None : goal.returns-in-None
+returns-in-None c = by_bits _ _ c.float.ensures Float (FloatNan c.args.bits) c.in-None.is

@@ -1,30 +1,18 @@
-use Prim.Native.Nat.{◌-◌}
 use native.Mathlib.Omega.{arith}
-use borrow.Author.Rules.{rules}
-use Rattle.dictionary.proofs.WalkLaws.{first_there, walk_bad, walk_starts, walk_there, walk_falls, walk_on, walk_ends}
+use Rattle.dictionary.proofs.WalkLaws.{walk_bad, walk_starts, walk_falls, walk_on, walk_ends}
 use Rattle.dictionary.proofs.offsets_good.Goals as goal
 
-pub read-last-requires : goal.read-last-requires
-read-last-requires c = search (rules, first_there)
-
 pub returns-then-last-ne0 : goal.returns-then-last-ne0
-returns-then-last-ne0 c = walk_bad _ _ _ c.requires _ c.read-last.ensures _ c.if-last-ne0.true
+returns-then-last-ne0 c = walk_bad _ _ c.get-last.ensures.0 _ c.if-last-ne0.true
 
 pub loop-i-init : goal.loop-i-init
-loop-i-init c = search (rules, walk_starts)
-
-pub read-next-requires : goal.read-next-requires
-read-next-requires c = search (rules, walk_there)
+loop-i-init c = (omega arith, omega arith, walk_starts _ _ c.get-last.ensures.0 (omega arith))
 
 pub returns-then-next-last : goal.returns-then-next-last
-returns-then-next-last c = search (rules, walk_falls)
-
-pub overflow_add-place : goal.overflow_add-place
-overflow_add-place c = let there = walk_there _ _ _ c.requires _ _ _ c.loop-i.invariant (omega arith) in
-    search rules
+returns-then-next-last c = walk_falls c.loop-i.invariant.2 c.loop-i.invariant.0 (omega arith) _ c.get-next.ensures.0 _ (omega arith)
 
 pub loop-i-preserved : goal.loop-i-preserved
-loop-i-preserved c = search (rules, walk_on)
+loop-i-preserved c = (omega arith, omega arith, walk_on c.loop-i.invariant.2 c.loop-i.invariant.0 (omega arith) _ c.get-next.ensures.0 (omega arith))
 
 pub returns : goal.returns
-returns c = search (rules, walk_ends)
+returns c = walk_ends c.loop-i.invariant.2 c.loop-i.invariant.0 _ (omega arith)

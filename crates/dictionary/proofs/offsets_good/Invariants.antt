@@ -1,10 +1,8 @@
 -- `offsets_good`: up to the place reached the offsets do not fall, and the last one read stands there.
-use Prim.Native.Nat.{◌-◌}
+use Prim.Native.Nat.{◌≤◌}
+use lib.ListN.{length}
 use Rattle.dictionary.proofs.WalkLaws.{Walk}
 use Rattle.dictionary.proofs.offsets_good.Given as goal
 
 abbrev pub invariant-loop-i : goal.invariant-loop-i
-invariant-loop-i l = Walk l.run l.width l.count l.last l.place l.i
-
-abbrev pub decreases-loop-i : goal.decreases-loop-i
-decreases-loop-i l = l.count - l.i
+invariant-loop-i l = (1 ≤ l.i) × (l.i ≤ length l.offsets) × Walk l.offsets l.last l.i

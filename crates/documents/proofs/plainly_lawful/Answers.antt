@@ -5,8 +5,8 @@ use Rattle.documents.proofs.QuickLaws.{short_lawful, long_lawful}
 use Rattle.paper.proofs.WordLaws.{never}
 use Rattle.documents.proofs.plainly_lawful.Goals as goal
 
-pub returns-then-value-eq0 : goal.returns-then-value-eq0
-returns-then-value-eq0 c = λ e. never (sym e)
+pub returns-then-is_empty : goal.returns-then-is_empty
+returns-then-is_empty c = λ e. never (sym e)
 
 pub returns-then-first-eq1 : goal.returns-then-first-eq1
 returns-then-first-eq1 c = search (rules, short_lawful)

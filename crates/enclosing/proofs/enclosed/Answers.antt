@@ -4,8 +4,8 @@ use Rattle.putting.proofs.PutLaws.{told_room}
 use Rattle.enclosing.proofs.FrameLaws.{enclosed_full, inner_below, inner_within, inner_short, put_enclosed}
 use Rattle.enclosing.proofs.enclosed.Goals as goal
 
-pub returns-in_default : goal.returns-in_default
-returns-in_default c = search (rules, enclosed_full)
+pub returns-in_err-inner : goal.returns-in_err-inner
+returns-in_err-inner c = rw c.from_residual.ensures (search (rules, enclosed_full))
 
 pub head-requires-2 : goal.head-requires-2
 head-requires-2 c = search (rules, told_room, inner_below, inner_within, inner_short)

@@ -5,10 +5,10 @@ use Rattle.fields.proofs.EntryLaws.{entry_at, entry_nowhere}
 use Rattle.fields.proofs.entry_of.Goals as goal
 
 pub overflow_add-result : goal.overflow_add-result
-overflow_add-result c = let e = entry_at c.in-At.is in omega arith
+overflow_add-result c = let e = entry_at c.in-Some.is in omega arith
 
-pub returns-in-At : goal.returns-in-At
-returns-in-At c = entry_at c.in-At.is
+pub returns-in-Some : goal.returns-in-Some
+returns-in-Some c = entry_at c.in-Some.is
 
-pub returns-in-Nowhere : goal.returns-in-Nowhere
-returns-in-Nowhere c = search (rules, entry_nowhere)
+pub returns-in-None : goal.returns-in-None
+returns-in-None c = search (rules, entry_nowhere)

@@ -1,4 +1,3 @@
-use Prim.Native.Nat.{◌-◌}
 use native.Mathlib.Omega.{arith}
 use borrow.Author.Rules.{rules}
 use Rattle.schemas.proofs.WalkLaws.{next_forward}
@@ -13,7 +12,7 @@ pub note-requires : goal.note-requires
 note-requires c = let pre = c.requires in
     let inside = c.loop-place-test.true in
     let tagged = c.if-schema-place-eq49.true in
-    ((field_first c.loop-place.invariant inside tagged).named_in, field_entry c.loop-place.invariant inside tagged pre.1, pre.2, pre.3, pre.4)
+    ((field_first c.loop-place.invariant inside tagged).named_in, field_entry c.loop-place.invariant inside tagged pre.1, pre.2, pre.3)
 
 pub field_node-place-requires : goal.field_node-place-requires
 field_node-place-requires c = (field_first c.loop-place.invariant c.loop-place-test.true c.if-schema-place-eq49.true).named_in

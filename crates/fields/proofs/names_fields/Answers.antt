@@ -1,4 +1,3 @@
-use Prim.Native.Nat.{◌-◌}
 use borrow.Author.Rules.{rules}
 use Rattle.fields.proofs.NamesLaws.{lists_start, lists_inside, lists_next, lists_done}
 use Rattle.fields.proofs.names_fields.Goals as goal

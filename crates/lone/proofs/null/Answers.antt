@@ -1,13 +1,11 @@
--- `null`: a 9 for either buffer, or both written.
-use borrow.Author.Rules.{rules}
-use Rattle.lone.proofs.LoneLaws.{null-metadata_short, null-value_short, null_done}
+-- `null`: nothing is written, or both.
+use Rattle.std.proofs.lemmas.Result.{err_from_is_err_and}
+use Rattle.lone.proofs.LoneLaws.{null_needed, null_done}
 use Rattle.lone.proofs.null.Goals as goal
 
-pub returns-then-metadata_out-lt3 : goal.returns-then-metadata_out-lt3
-returns-then-metadata_out-lt3 c = search (rules, null-metadata_short)
-
-pub returns-then-value_out-lt1 : goal.returns-then-value_out-lt1
-returns-then-value_out-lt1 c = search (rules, null-value_short)
+pub returns-in_err-fits : goal.returns-in_err-fits
+returns-in_err-fits c = let p = err_from_is_err_and c.from_residual.result c.from_residual.ensures.1 in
+    rw (p.1, p.2) (c.in_err-fits.ensures _ null_needed)
 
 pub returns : goal.returns
-returns c = search (rules, null_done)
+returns c = null_done c.in_ok-fits.ensures c.write.ensures c.write-2.ensures

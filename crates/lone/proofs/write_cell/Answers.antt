@@ -10,35 +10,35 @@ bounds-s-0 c = search (rules, yes_no-some)
 pub write-requires : goal.write-requires
 write-requires c = search (rules, boolean_fits)
 
-pub returns-then-s-eq1 : goal.returns-then-s-eq1
-returns-then-s-eq1 c = search (rules, wrote_true)
+pub returns-in-1 : goal.returns-in-1
+returns-in-1 c = search (rules, wrote_true)
 
-pub write-requires-then-code-eq1 : goal.write-requires-then-code-eq1
-write-requires-then-code-eq1 c = search (rules, boolean_fits)
+pub write-requires-in-1-2 : goal.write-requires-in-1-2
+write-requires-in-1-2 c = search (rules, boolean_fits)
 
-pub returns-then-code-eq1 : goal.returns-then-code-eq1
-returns-then-code-eq1 c = search (rules, wrote_false)
+pub returns-in-1-2 : goal.returns-in-1-2
+returns-in-1-2 c = search (rules, wrote_false)
 
 pub headed-requires : goal.headed-requires
 headed-requires c = search (rules, short_fits)
 
-pub returns-then-s-le63 : goal.returns-then-s-le63
-returns-then-s-le63 c = search (rules, wrote_short)
+pub returns-in-16 : goal.returns-in-16
+returns-in-16 c = search (rules, wrote_short)
 
 pub prefixed-requires : goal.prefixed-requires
 prefixed-requires c = search (rules, long_fits)
 
-pub returns-then-code-eq16 : goal.returns-then-code-eq16
-returns-then-code-eq16 c = search (rules, wrote_long)
+pub returns-in-16-2 : goal.returns-in-16-2
+returns-in-16-2 c = search (rules, wrote_long)
 
-pub prefixed-requires-then-code-eq15 : goal.prefixed-requires-then-code-eq15
-prefixed-requires-then-code-eq15 c = search (rules, binary_fits)
+pub prefixed-requires-in-15 : goal.prefixed-requires-in-15
+prefixed-requires-in-15 c = search (rules, binary_fits)
 
-pub returns-then-code-eq15 : goal.returns-then-code-eq15
-returns-then-code-eq15 c = search (rules, wrote_binary)
+pub returns-in-15 : goal.returns-in-15
+returns-in-15 c = search (rules, wrote_binary)
 
-pub headed-requires-2 : goal.headed-requires-2
-headed-requires-2 c = search (rules, first_small, plain_fits)
+pub headed-requires-in_default : goal.headed-requires-in_default
+headed-requires-in_default c = search (rules, first_small, plain_fits)
 
-pub returns : goal.returns
-returns c = search (rules, wrote_plain)
+pub returns-in_default : goal.returns-in_default
+returns-in_default c = search (rules, wrote_plain)

@@ -1,4 +1,3 @@
-use Prim.Native.Nat.{◌-◌}
 use borrow.Author.Rules.{rules}
 use Rattle.lookup.proofs.IdLaws.{list_start, list_next, list_done}
 use Rattle.lookup.proofs.list_ids.Goals as goal

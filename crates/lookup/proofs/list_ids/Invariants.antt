@@ -1,11 +1,6 @@
 -- `list_ids`: those in front are listed.
-use Prim.Native.Nat.{◌-◌}
-use lib.ListN.{length}
 use Rattle.lookup.proofs.IdLaws.{ListSeen}
 use Rattle.lookup.proofs.list_ids.Given as goal
 
 abbrev pub invariant-loop-i : goal.invariant-loop-i
 invariant-loop-i l = ListSeen l.initial.ids l.ids l.i
-
-abbrev pub decreases-loop-i : goal.decreases-loop-i
-decreases-loop-i l = length l.ids - l.i

@@ -1,15 +1,14 @@
 -- `ordered_id`: the place itself where the flag is set, else the table's entry.
+use mathlib.Core.Path.{sym, ◌∙◌}
 use native.Mathlib.Omega.{arith}
-use borrow.Author.Rules.{rules}
-use borrow.Author.Tests.{not-true, not-false}
 use Rattle.lookup.proofs.OrderedLaws.{at_flag, at_table}
 use Rattle.lookup.proofs.ordered_id.Goals as goal
 
 pub id_at-requires : goal.id_at-requires
-id_at-requires c = let room = c.requires.1 (not-true _ c.if-not-names.true) in omega arith
+id_at-requires c = let room = c.requires.1 (sym c.is_sorted.ensures.flag ∙ c.if-is_sorted.false) in omega arith
 
-pub returns-then-not-names : goal.returns-then-not-names
-returns-then-not-names c = search (rules, not-true, at_table)
+pub returns-then-is_sorted : goal.returns-then-is_sorted
+returns-then-is_sorted c = at_flag _ _ _ c.requires.0 (sym c.is_sorted.ensures.flag ∙ c.if-is_sorted.true)
 
-pub returns : goal.returns
-returns c = search (rules, not-false, at_flag)
+pub returns-else-is_sorted : goal.returns-else-is_sorted
+returns-else-is_sorted c = at_table _ _ _ c.requires.0 (sym c.is_sorted.ensures.flag ∙ c.if-is_sorted.false) c.id_at.ensures.0

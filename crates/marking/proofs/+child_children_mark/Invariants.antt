@@ -1,6 +1,6 @@
 -- `child`, `children` and `mark`: what is left of the children is to be marked on what is marked, and a value is marked by its
 -- first byte. A call takes a level, or keeps it and goes from `children` to `child` to `mark`.
-use Prim.Native.Nat.{◌+◌, ◌-◌, ◌*◌}
+use Prim.Native.Nat.{◌+◌, ◌*◌}
 use Rattle.marking.proofs.InsideLaws.{InsideSeen}
 use Rattle.marking.proofs.+child_children_mark.Given as goal
 
@@ -14,7 +14,4 @@ abbrev pub decreases-mark : goal.decreases-mark
 decreases-mark l = 3 * l.levels
 
 abbrev pub invariant-children-loop-i : goal.invariant-children-loop-i
-invariant-children-loop-i l = InsideSeen l.levels l.s l.counted l.id l.width l.area l.starts l.count l.initial.used l.used l.place l.i
-
-abbrev pub decreases-children-loop-i : goal.decreases-children-loop-i
-decreases-children-loop-i l = l.count - l.i
+invariant-children-loop-i l = InsideSeen l.levels l.container.area.now l.container.starts l.initial.used l.used l.i

@@ -1,20 +1,12 @@
-use Prim.Native.Nat.{◌-◌}
 use borrow.Author.Rules.{rules}
 use Rattle.marking.proofs.RunLaws.{run_start, run_inside, run_marked, run_done}
-use Rattle.containers.proofs.RunLaws.{standing_there, standing_fits}
 use Rattle.marking.proofs.mark_run.Goals as goal
 
 pub loop-i-init : goal.loop-i-init
-loop-i-init c = run_start _ _ _ _
-
-pub input_id_at-requires : goal.input_id_at-requires
-input_id_at-requires c = search (rules, standing_there)
+loop-i-init c = run_start _ _
 
 pub mark_id-requires : goal.mark_id-requires
 mark_id-requires c = search (rules, run_inside)
-
-pub overflow_add-place : goal.overflow_add-place
-overflow_add-place c = search (rules, standing_fits)
 
 pub loop-i-preserved : goal.loop-i-preserved
 loop-i-preserved c = search (rules, run_marked)

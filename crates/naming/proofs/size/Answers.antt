@@ -14,4 +14,4 @@ pub overflow_add-result-4 : goal.overflow_add-result-4
 overflow_add-result-4 c = let fits = size_fits _ _ c.requires.few c.offset_size-width.ensures.2 in search rules
 
 pub returns : goal.returns
-returns c = size_is _ _ _ _ (names_length c.requires) c.total_of-total.ensures c.offset_size-width.ensures
+returns c = size_is _ _ _ _ (names_length c.args.dictionary.now.names c.args.chosen.now) c.total_of-total.ensures c.offset_size-width.ensures

@@ -1,10 +1,6 @@
 -- `write_names`: the names that are left, put behind those that are written, make all.
-use Prim.Native.Nat.{◌-◌}
 use Rattle.naming.proofs.LoopLaws.{NamesPut}
 use Rattle.naming.proofs.write_names.Given as goal
 
 abbrev pub invariant-loop-i : goal.invariant-loop-i
-invariant-loop-i l = NamesPut l.metadata l.chosen l.initial.out l.out l.count l.place l.at l.i
-
-abbrev pub decreases-loop-i : goal.decreases-loop-i
-decreases-loop-i l = l.count - l.i
+invariant-loop-i l = NamesPut l.dictionary.names l.chosen l.initial.out l.out l.place l.at l.i

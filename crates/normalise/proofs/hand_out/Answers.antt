@@ -1,16 +1,12 @@
--- `hand_out`: too large, a 9 for either buffer, or both written.
-use borrow.Author.Rules.{rules}
-use Rattle.normalise.proofs.AnswerLaws.{answer_large, answer-metadata_short, answer-value_short, answer_done}
+-- `hand_out`: nothing is written, or both.
+use mathlib.Core.Path.{refl}
+use Rattle.std.proofs.lemmas.Result.{err_from_is_err_and}
+use Rattle.normalise.proofs.AnswerLaws.{lengths_same, handed_done}
 use Rattle.normalise.proofs.hand_out.Goals as goal
 
-pub returns-then-value-gt-MOST_VALUE : goal.returns-then-value-gt-MOST_VALUE
-returns-then-value-gt-MOST_VALUE c = λ d used is. answer_large d _ is _ _ c.if-value-gt-MOST_VALUE.true
-
-pub returns-then-metadata_out-size : goal.returns-then-metadata_out-size
-returns-then-metadata_out-size c = λ d used is. answer-metadata_short d _ is _ _ (search rules) _ used _ c.size-size.ensures c.if-metadata_out-size.true
-
-pub returns-then-value_out-value : goal.returns-then-value_out-value
-returns-then-value_out-value c = λ d used is. answer-value_short d _ is _ _ (search rules) _ used _ c.size-size.ensures c.if-value_out-value.true
+pub returns-in_err-fits : goal.returns-in_err-fits
+returns-in_err-fits c = λ d used is. let p = err_from_is_err_and c.from_residual.result c.from_residual.ensures.1 in
+    rw (p.1, p.2) (c.in_err-fits.ensures d (lengths_same d _ used _ is _ c.size.ensures refl))
 
 pub returns : goal.returns
-returns c = λ d used is. answer_done d _ is _ _ (search rules) _ used _ (search rules) (search rules) (search rules) _ _ (search rules) (search rules)
+returns c = λ d used is. handed_done d _ used _ is _ c.size.ensures refl c.in_ok-fits.ensures c.write.ensures c.put.ensures

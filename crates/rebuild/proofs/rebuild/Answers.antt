@@ -6,11 +6,11 @@ use Rattle.rebuild.proofs.LeftoverLaws.{left_lent, left_answers}
 use Rattle.rebuild.proofs.MeaningLaws.{row_answers}
 use Rattle.rebuild.proofs.rebuild.Goals as goal
 
-pub slice_bounds-normalise-count-in-Leftover : goal.slice_bounds-normalise-count-in-Leftover
-slice_bounds-normalise-count-in-Leftover c = search (rules, one_long)
+pub slice_bounds-normalise-count : goal.slice_bounds-normalise-count
+slice_bounds-normalise-count c = search (rules, one_long)
 
-pub slice_bounds-normalise-start-in-Leftover : goal.slice_bounds-normalise-start-in-Leftover
-slice_bounds-normalise-start-in-Leftover c = search (rules, one_long)
+pub slice_bounds-normalise-start : goal.slice_bounds-normalise-start
+slice_bounds-normalise-start c = search (rules, one_long)
 
 pub normalise-requires : goal.normalise-requires
 normalise-requires c = search (rules, left_lent)
@@ -29,6 +29,3 @@ returns-in-Typed c = search (rules, row_answers)
 
 pub returns-in-Both : goal.returns-in-Both
 returns-in-Both c = search (rules, row_answers)
-
-pub returns-in-Unframed : goal.returns-in-Unframed
-returns-in-Unframed c = search (rules, row_answers)

@@ -1,16 +1,23 @@
--- `find`: by the length of the path, then by what the judging of the document says.
+-- `find`: the length of the path, the document, then the path.
 use borrow.Author.Rules.{rules}
-use Rattle.register.proofs.DocumentAnswers.{path_long, find_asks, find_lawful, find_refused}
+use Rattle.register.proofs.DocumentAnswers.{path_long, find_refused, find_path_bad, find_asks, found}
 use Rattle.register.proofs.find.Goals as goal
 
 pub returns-then-path-gt-MOST_PATH : goal.returns-then-path-gt-MOST_PATH
-returns-then-path-gt-MOST_PATH c = search (rules, path_long)
+returns-then-path-gt-MOST_PATH c = path_long _ _ _ c.if-path-gt-MOST_PATH.true
 
-pub find_in-requires : goal.find_in-requires
-find_in-requires c = find_asks _ _ _ c.judge-judged.ensures _ c.in-Lawful.is
+pub returns-in_err-dictionary : goal.returns-in_err-dictionary
+returns-in_err-dictionary c = search (rules, find_refused)
 
-pub returns-in-Lawful : goal.returns-in-Lawful
-returns-in-Lawful c = search (rules, find_lawful)
+pub returns-then-not-path_good : goal.returns-then-not-path_good
+returns-then-not-path_good c =
+    find_path_bad _ _ _ c.judge.ensures _ c.if-path-gt-MOST_PATH.false _ c.in_ok-dictionary.was _ c.path_good.ensures c.if-not-path_good.true
 
-pub returns-in-Refused : goal.returns-in-Refused
-returns-in-Refused c = search (rules, find_refused)
+pub find-requires : goal.find-requires
+find-requires c =
+    find_asks _ _ _ c.judge.ensures _ c.if-path-gt-MOST_PATH.false _ c.in_ok-dictionary.was _ c.path_good.ensures c.if-not-path_good.false
+
+pub returns : goal.returns
+returns c =
+    found _ _ _ c.judge.ensures _ c.if-path-gt-MOST_PATH.false _ c.in_ok-dictionary.was _ c.path_good.ensures c.if-not-path_good.false _
+    c.find.ensures

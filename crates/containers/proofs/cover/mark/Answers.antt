@@ -1,20 +1,12 @@
-use Prim.Native.Nat.{◌-◌}
 use borrow.Author.Rules.{rules}
 use Rattle.containers.proofs.MarkLaws.{marks_start, mark_inside, marks_next, marks_done}
-use Rattle.containers.proofs.RunLaws.{standing_there, standing_fits}
 use Rattle.containers.proofs.cover.mark.Goals as goal
 
 pub loop-i-init : goal.loop-i-init
-loop-i-init c = marks_start _ _ _ _
-
-pub read-start-requires : goal.read-start-requires
-read-start-requires c = search (rules, standing_there)
+loop-i-init c = marks_start _ _
 
 pub set_bit-requires : goal.set_bit-requires
 set_bit-requires c = search (rules, mark_inside)
-
-pub overflow_add-place : goal.overflow_add-place
-overflow_add-place c = search (rules, standing_fits)
 
 pub loop-i-preserved : goal.loop-i-preserved
 loop-i-preserved c = search (rules, marks_next)

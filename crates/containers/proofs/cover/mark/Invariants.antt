@@ -1,10 +1,6 @@
 -- `mark`: what is left to be marked, on what is marked.
-use Prim.Native.Nat.{◌-◌}
 use Rattle.containers.proofs.MarkLaws.{MarksSeen}
 use Rattle.containers.proofs.cover.mark.Given as goal
 
 abbrev pub invariant-loop-i : goal.invariant-loop-i
-invariant-loop-i l = MarksSeen l.starts l.initial.marks l.marks l.width l.count l.place l.i
-
-abbrev pub decreases-loop-i : goal.decreases-loop-i
-decreases-loop-i l = l.count - l.i
+invariant-loop-i l = MarksSeen l.starts l.initial.marks l.marks l.i

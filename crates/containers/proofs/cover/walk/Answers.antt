@@ -1,4 +1,3 @@
-use Prim.Native.Nat.{◌-◌}
 use borrow.Author.Rules.{rules}
 use Rattle.containers.proofs.WalkLaws.{seen_start, seen_unmarked, seen_lost, seen_fits, seen_falls, seen_next, seen_ended}
 use Rattle.containers.proofs.cover.walk.Goals as goal

@@ -18,7 +18,4 @@ abbrev pub decreases-place : goal.decreases-place
 decreases-place l = (most_schema + 4) * l.levels
 
 abbrev pub invariant-list_place-loop-i : goal.invariant-list_place-loop-i
-invariant-list_place-loop-i l = ListSeen l.levels l.ranks l.schema l.table l.node l.s l.initial.notes l.initial.ids l.initial.out l.end l.members l.notes l.ids l.out l.start l.i
-
-abbrev pub decreases-list_place-loop-i : goal.decreases-list_place-loop-i
-decreases-list_place-loop-i l = l.i
+invariant-list_place-loop-i l = ListSeen l.levels l.basis.ranks.now l.basis.schema.now l.basis.table.now l.node l.s l.initial.notes l.initial.ids l.initial.out l.end l.members l.notes l.ids l.out l.start l.i

@@ -9,8 +9,8 @@ returns-then-members-k c = search (rules, past_last)
 pub id_at-requires : goal.id_at-requires
 id_at-requires c = search (rules, run_there)
 
-pub returns-in-At : goal.returns-in-At
-returns-in-At c = search (rules, member_by_id)
+pub returns-in-Some : goal.returns-in-Some
+returns-in-Some c = search (rules, member_by_id)
 
-pub returns-in-Nowhere : goal.returns-in-Nowhere
-returns-in-Nowhere c = search (rules, member_of_none)
+pub returns-in-None : goal.returns-in-None
+returns-in-None c = search (rules, member_of_none)

@@ -1,5 +1,4 @@
 use borrow.Author.Rules.{rules}
-use Prim.Native.Nat.{◌-◌}
 use Rattle.cutting.proofs.PassLaws.{pass_start, pass_there, pass_stops, pass_ends, pass_next}
 use Rattle.cutting.proofs.passing.not_below.Goals as goal
 

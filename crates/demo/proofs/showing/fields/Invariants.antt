@@ -1,9 +1,6 @@
--- `fields`: each turn passes a field, and a place if there is one.
-use Rattle.std.proofs.Common.{◌≤◌, ◌-◌, length}
+-- `fields`: each turn passes a column.
+use Rattle.std.proofs.Common.{length}
 use Rattle.demo.proofs.showing.fields.Given as goal
 
-abbrev pub invariant-loop-field : goal.invariant-loop-field
-invariant-loop-field g l = (l.field ≤ length l.columns) × (l.at ≤ length l.places)
-
-abbrev pub decreases-loop-field : goal.decreases-loop-field
-decreases-loop-field g l = length l.columns - l.field
+abbrev pub decreases-loop-columns : goal.decreases-loop-columns
+decreases-loop-columns g l = length l.columns

@@ -2,29 +2,27 @@
 use native.Mathlib.Omega.{arith}
 use lib.ListN.{length-take, length-drop}
 use borrow.Author.Rules.{rules}
-use Rattle.heads.proofs.TableLaws.{readings, readings_all}
 use Rattle.handing.proofs.RoomLaws.{place_ready_lem, place_starts, place_answers, place_nowhere}
 use Rattle.handing.proofs.rooms.write_out.Goals as goal
 
-pub place-put-requires : goal.place-put-requires
-unfolding readings
-place-put-requires c = let pre = c.requires in
-    (readings_all, record { above = omega arith; within = omega arith; small = omega (arith, pre.3) }, pre.3, place_ready_lem pre.0 pre.1 pre.2)
+pub place-requires : goal.place-requires
+place-requires c = let pre = c.requires in
+    (record { above = omega arith; within = omega arith; small = omega (arith, pre.3) }, pre.3, place_ready_lem pre.0 pre.1 pre.2)
 
-pub returns-in_default : goal.returns-in_default
-returns-in_default c = let pre = c.requires in λ ready. place_nowhere ready pre.1 pre.2 c.place-put.ensures c.in_default.is
+pub returns-in_err-start : goal.returns-in_err-start
+returns-in_err-start c = let pre = c.requires in λ ready. rw c.from_residual.ensures (place_nowhere ready pre.1 pre.2 c.place.ensures c.in_err-start.was)
 
 pub slice_bounds-hand_out-count : goal.slice_bounds-hand_out-count
-slice_bounds-hand_out-count c = let pre = c.requires in place_starts pre.0 pre.1 pre.2 c.place-put.ensures c.in-At.is
+slice_bounds-hand_out-count c = let pre = c.requires in place_starts pre.0 pre.1 pre.2 c.place.ensures c.in_ok-start.was
 
 pub slice_bounds-hand_out-start : goal.slice_bounds-hand_out-start
 slice_bounds-hand_out-start c = let pre = c.requires in
-    let inside = place_starts pre.0 pre.1 pre.2 c.place-put.ensures c.in-At.is in
+    let inside = place_starts pre.0 pre.1 pre.2 c.place.ensures c.in_ok-start.was in
     search rules
 
-pub hand_out-answer-requires : goal.hand_out-answer-requires
-hand_out-answer-requires c = let pre = c.requires in (pre.0.normal.metadata_short, rw (length-take, length-drop) (omega (arith, pre.3)))
+pub hand_out-requires : goal.hand_out-requires
+hand_out-requires c = let pre = c.requires in (pre.0.normal.metadata_short, rw (length-take, length-drop) (omega (arith, pre.3)))
 
 pub returns : goal.returns
 returns c = let pre = c.requires in
-    λ ready. place_answers ready pre.1 pre.2 c.place-put.ensures c.in-At.is c.hand_out-answer.ensures
+    λ ready. place_answers ready pre.1 pre.2 c.place.ensures c.in_ok-start.was c.hand_out.ensures

@@ -1,4 +1,3 @@
-use Prim.Native.Nat.{◌-◌}
 use borrow.Author.Rules.{rules}
 use Rattle.noting.proofs.ElementLaws.{elements_start, elements_done, elements_whole, spot_room, elements_falls, elements_next}
 use Rattle.noting.proofs.elements.note_elements.Goals as goal

@@ -1,4 +1,3 @@
-use Prim.Native.Nat.{◌-◌}
 use native.Mathlib.Omega.{arith}
 use borrow.Author.Rules.{rules}
 use Rattle.noting.proofs.FieldLaws.{members_start, run_ranked, count_fits, place_there, field_frame, field_entry, place_whole, field_known, last_room, members_done, members_absent, member_room, found_there, members_present}
@@ -23,7 +22,7 @@ field_id-requires c = search (rules, field_entry)
 -- .. and a field that is present has an id.
 pub returns-in_default-field_id : goal.returns-in_default-field_id
 returns-in_default-field_id c = absurd
-    (field_known c.loop-field.invariant c.loop-field-test.true c.place_frame.ensures c.in-Ends.is c.if-at-end.true
+    (field_known c.loop-field.invariant c.loop-field-test.true c.place_frame.ensures c.in-Some.is c.if-at-end.true
     c.field_id.ensures c.in_default-field_id.is)
 
 pub note_field-next-requires : goal.note_field-next-requires
@@ -31,11 +30,11 @@ note_field-next-requires c = let seen = c.loop-field.invariant in
     let left = c.loop-field-test.true in
     let pre = c.requires in
     let present = c.if-at-end.true in
-    let id = found_there seen left c.place_frame.ensures c.in-Ends.is present c.field_id.ensures c.in-At.is in (
+    let id = found_there seen left c.place_frame.ensures c.in-Some.is present c.field_id.ensures c.in-Some-field_id.is in (
       pre.some_members.1,
       run_ranked pre.some_members.0,
       seen.left_in,
-      member_room seen left c.place_frame.ensures c.in-Ends.is present pre.schema_len_bound.2 pre.schema_len_bound.3,
+      member_room seen left c.place_frame.ensures c.in-Some.is present pre.schema_len_bound.2 pre.schema_len_bound.3,
       id.0,
       id.1,
       omega (arith, place_there seen left, pre.schema_len_bound.1),
@@ -46,14 +45,14 @@ pub overflow_sub-n : goal.overflow_sub-n
 overflow_sub-n c = c.note_field-next.ensures.forward
 
 pub overflow_add-n : goal.overflow_add-n
-overflow_add-n c = (count_fits c.loop-field.invariant c.note_field-next.ensures.forward c.note_field-next.ensures.within c.requires.schema_len_bound.2 c.well_formed.1.1.1.1.1.1.1.1.1.1.1.0.0).0
+overflow_add-n c = (count_fits c.loop-field.invariant c.note_field-next.ensures.forward c.note_field-next.ensures.within c.requires.schema_len_bound.2 c.well_formed.1.1.1.1.1.1.1.1.0.0).0
 
 pub overflow_add-n-then-at-end : goal.overflow_add-n-then-at-end
-overflow_add-n-then-at-end c = (count_fits c.loop-field.invariant c.note_field-next.ensures.forward c.note_field-next.ensures.within c.requires.schema_len_bound.2 c.well_formed.1.1.1.1.1.1.1.1.1.1.1.0.0).1
+overflow_add-n-then-at-end c = (count_fits c.loop-field.invariant c.note_field-next.ensures.forward c.note_field-next.ensures.within c.requires.schema_len_bound.2 c.well_formed.1.1.1.1.1.1.1.1.0.0).1
 
-pub loop-field-preserved-in-At : goal.loop-field-preserved-in-At
-loop-field-preserved-in-At c = members_present c.loop-field.invariant c.loop-field-test.true c.place_frame.ensures c.in-Ends.is c.frame_end-behind.ensures c.if-at-end.true
-    c.field_id.ensures c.in-At.is c.note_field-next.ensures
+pub loop-field-preserved-in-Some-field_id : goal.loop-field-preserved-in-Some-field_id
+loop-field-preserved-in-Some-field_id c = members_present c.loop-field.invariant c.loop-field-test.true c.place_frame.ensures c.in-Some.is c.frame_end-behind.ensures c.if-at-end.true
+    c.field_id.ensures c.in-Some-field_id.is c.note_field-next.ensures
 
 pub loop-field-preserved : goal.loop-field-preserved
 loop-field-preserved c = search (rules, members_absent)
@@ -68,7 +67,7 @@ pub overflow_sub-result : goal.overflow_sub-result
 overflow_sub-result c = c.note_left-last.ensures.forward
 
 pub overflow_add-result : goal.overflow_add-result
-overflow_add-result c = (count_fits c.loop-field.invariant c.note_left-last.ensures.forward c.note_left-last.ensures.within c.requires.schema_len_bound.2 c.well_formed.1.1.1.1.1.1.1.1.1.1.1.0.0).0
+overflow_add-result c = (count_fits c.loop-field.invariant c.note_left-last.ensures.forward c.note_left-last.ensures.within c.requires.schema_len_bound.2 c.well_formed.1.1.1.1.1.1.1.1.0.0).0
 
 pub returns : goal.returns
 returns c = members_done c.loop-field.invariant c.loop-field-test.false (λ i. omega (arith, c.type_inv.ranks i)) c.note_left-last.ensures

@@ -1,29 +1,26 @@
--- `into_element`: by the reading of the first byte.
-use borrow.Author.Rules.{rules}
+-- `into_element`: by the reading of the first byte, then what is found in the area.
 use Rattle.paths.proofs.LawfulLaws.{lawful_some, array_asks}
-use Rattle.paths.proofs.StepLaws.{element_of, element_fixed, element_prefixed, element_short, element_object, element_nothing}
+use Rattle.paths.proofs.PartLaws.{element_asks, element_none, element_part, element_some}
+use Rattle.paths.proofs.StepLaws.{no_array}
 use Rattle.paths.proofs.finding.into_element.Goals as goal
 
 pub bounds-s-0 : goal.bounds-s-0
-bounds-s-0 c = search (rules, lawful_some)
+bounds-s-0 c = lawful_some c.requires.1
 
-pub in_array-requires : goal.in_array-requires
-in_array-requires c = array_asks c.requires.1 _ c.reading-says.ensures _ _ c.in-ArrayHead.is
+pub returns-in_default : goal.returns-in_default
+returns-in_default c = no_array _ c.args.s.now _ c.reading.ensures c.in_default.not-ArrayHead
 
-pub returns-in-Fixed : goal.returns-in-Fixed
-returns-in-Fixed c = search (rules, element_fixed)
+pub array-array-requires : goal.array-array-requires
+array-array-requires c = array_asks c.requires.1 _ c.reading.ensures _ _ c.in-ArrayHead.is
 
-pub returns-in-Prefixed : goal.returns-in-Prefixed
-returns-in-Prefixed c = search (rules, element_prefixed)
+pub element_at-requires : goal.element_at-requires
+element_at-requires c = element_asks c.requires.1 c.reading.ensures c.in-ArrayHead.is c.array-array.ensures.starts c.array-array.ensures.area
 
-pub returns-in-Short : goal.returns-in-Short
-returns-in-Short c = search (rules, element_short)
+pub returns-in_err-element : goal.returns-in_err-element
+returns-in_err-element c = rw c.from_residual.ensures (element_none c.requires.1 c.reading.ensures c.in-ArrayHead.is c.array-array.ensures.starts c.array-array.ensures.area _ _ c.element_at.ensures c.in_err-element.was)
 
-pub returns-in-ObjectHead : goal.returns-in-ObjectHead
-returns-in-ObjectHead c = search (rules, element_object)
+pub part_of-requires : goal.part_of-requires
+part_of-requires c = element_part c.requires.1 c.reading.ensures c.in-ArrayHead.is c.array-array.ensures.starts c.array-array.ensures.area _ _ c.element_at.ensures _ c.in_ok-element.was
 
-pub returns-in-ArrayHead : goal.returns-in-ArrayHead
-returns-in-ArrayHead c = search (rules, element_of)
-
-pub returns-in-Nothing : goal.returns-in-Nothing
-returns-in-Nothing c = search (rules, element_nothing)
+pub returns : goal.returns
+returns c = element_some c.requires.1 c.reading.ensures c.in-ArrayHead.is c.array-array.ensures.starts c.array-array.ensures.area _ _ c.element_at.ensures _ c.in_ok-element.was _ c.part_of.ensures

@@ -1,29 +1,26 @@
--- `into_field`: by the reading of the first byte.
-use borrow.Author.Rules.{rules}
+-- `into_field`: by the reading of the first byte, then what is found in the area.
 use Rattle.paths.proofs.LawfulLaws.{lawful_some, object_asks}
-use Rattle.paths.proofs.StepLaws.{field_of, field_fixed, field_prefixed, field_short, field_array, field_nothing}
+use Rattle.paths.proofs.PartLaws.{field_asks, field_none, field_part, field_some}
+use Rattle.paths.proofs.StepLaws.{no_object}
 use Rattle.paths.proofs.finding.into_field.Goals as goal
 
 pub bounds-s-0 : goal.bounds-s-0
-bounds-s-0 c = search (rules, lawful_some)
+bounds-s-0 c = lawful_some c.requires
 
-pub in_object-requires : goal.in_object-requires
-in_object-requires c = object_asks c.requires.1 _ c.reading-says.ensures _ _ _ c.in-ObjectHead.is c.requires.0
+pub returns-in_default : goal.returns-in_default
+returns-in_default c = no_object _ _ c.args.s.now _ c.reading.ensures c.in_default.not-ObjectHead
 
-pub returns-in-Fixed : goal.returns-in-Fixed
-returns-in-Fixed c = search (rules, field_fixed)
+pub object-object-requires : goal.object-object-requires
+object-object-requires c = object_asks c.requires _ c.reading.ensures _ _ _ c.in-ObjectHead.is
 
-pub returns-in-Prefixed : goal.returns-in-Prefixed
-returns-in-Prefixed c = search (rules, field_prefixed)
+pub field_at-requires : goal.field_at-requires
+field_at-requires c = field_asks c.requires c.reading.ensures c.in-ObjectHead.is c.object-object.ensures.ids c.object-object.ensures.starts c.object-object.ensures.area
 
-pub returns-in-Short : goal.returns-in-Short
-returns-in-Short c = search (rules, field_short)
+pub returns-in_err-field : goal.returns-in_err-field
+returns-in_err-field c = rw c.from_residual.ensures (field_none c.requires c.reading.ensures c.in-ObjectHead.is c.object-object.ensures.ids c.object-object.ensures.starts c.object-object.ensures.area _ _ c.field_at.ensures c.in_err-field.was)
 
-pub returns-in-ObjectHead : goal.returns-in-ObjectHead
-returns-in-ObjectHead c = search (rules, field_of)
+pub part_of-requires : goal.part_of-requires
+part_of-requires c = field_part c.requires c.reading.ensures c.in-ObjectHead.is c.object-object.ensures.ids c.object-object.ensures.starts c.object-object.ensures.area _ _ c.field_at.ensures _ c.in_ok-field.was
 
-pub returns-in-ArrayHead : goal.returns-in-ArrayHead
-returns-in-ArrayHead c = search (rules, field_array)
-
-pub returns-in-Nothing : goal.returns-in-Nothing
-returns-in-Nothing c = search (rules, field_nothing)
+pub returns : goal.returns
+returns c = field_some c.requires c.reading.ensures c.in-ObjectHead.is c.object-object.ensures.ids c.object-object.ensures.starts c.object-object.ensures.area _ _ c.field_at.ensures _ c.in_ok-field.was _ c.part_of.ensures

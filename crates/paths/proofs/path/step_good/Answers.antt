@@ -1,13 +1,13 @@
 -- `step_good`: by the tag, then by the length of an index.
-use borrow.Author.Rules.{rules}
+use native.Mathlib.Omega.{arith}
 use Rattle.paths.proofs.PathLaws.{step_name, step_index, step_neither}
 use Rattle.paths.proofs.path.step_good.Goals as goal
 
-pub returns-then-tag-eq96 : goal.returns-then-tag-eq96
-returns-then-tag-eq96 c = search (rules, step_name)
+pub returns-in-96 : goal.returns-in-96
+returns-in-96 c = step_name _ _ c.in-96.is
 
-pub returns-then-tag-eq97 : goal.returns-then-tag-eq97
-returns-then-tag-eq97 c = search (rules, step_index)
+pub returns-in-97 : goal.returns-in-97
+returns-in-97 c = step_index _ _ (omega arith) c.in-97.is
 
-pub returns : goal.returns
-returns c = search (rules, step_neither)
+pub returns-in_default : goal.returns-in_default
+returns-in_default c = step_neither _ _ (omega arith) (omega arith)

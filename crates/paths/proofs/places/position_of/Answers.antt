@@ -1,27 +1,19 @@
-use Prim.Native.Nat.{◌-◌}
-use borrow.Author.Rules.{rules}
-use Rattle.dictionary.proofs.DictionaryLaws.{opened_count}
+use mathlib.Core.Path.{◌∙◌}
+use native.Mathlib.Omega.{arith}
 use Rattle.paths.proofs.PositionLaws.{position_start, id_below, position_here, position_next, position_none}
-use Rattle.containers.proofs.RunLaws.{standing_there, standing_fits}
 use Rattle.paths.proofs.places.position_of.Goals as goal
 
 pub loop-i-init : goal.loop-i-init
-loop-i-init c = position_start _ _ _ _ _
-
-pub input_id_at-id-requires : goal.input_id_at-id-requires
-input_id_at-id-requires c = search (rules, standing_there)
+loop-i-init c = position_start _ _ _
 
 pub is_name-requires : goal.is_name-requires
-is_name-requires c = search (rules, id_below, opened_count)
+is_name-requires c = id_below c.loop-i.invariant (omega arith) _ c.input_id.ensures.0 c.requires
 
 pub returns-then-is_name : goal.returns-then-is_name
-returns-then-is_name c = search (rules, position_here)
-
-pub overflow_add-place : goal.overflow_add-place
-overflow_add-place c = search (rules, standing_fits)
+returns-then-is_name c = position_here c.loop-i.invariant (omega arith) _ c.input_id.ensures.0 _ c.is_name.ensures c.if-is_name.true
 
 pub loop-i-preserved : goal.loop-i-preserved
-loop-i-preserved c = search (rules, position_next)
+loop-i-preserved c = position_next c.loop-i.invariant (omega arith) _ c.input_id.ensures.0 _ c.is_name.ensures c.if-is_name.false
 
 pub returns : goal.returns
-returns c = search (rules, position_none)
+returns c = c.len.ensures ∙ position_none c.loop-i.invariant (omega arith)

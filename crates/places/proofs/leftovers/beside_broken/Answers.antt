@@ -3,18 +3,20 @@ use mathlib.Core.Path.{refl}
 use borrow.Author.Rules.{rules}
 use Rattle.places.proofs.LeftLaws.{node_in, left_in, frame_in, clash_ready, other_node, other_left, clash_judged}
 use Rattle.places.proofs.leftovers.beside_broken.Goals as goal
+use Rattle.places.proofs.leftovers.beside_broken.Goals.{then-schema-node-ne48-via-then-schema-node-ne48, then-schema-node-ne48-via-else-schema-node-ne48+then-left-ne2}
 
 pub bounds-schema-node : goal.bounds-schema-node
 bounds-schema-node c = search (rules, node_in)
 
 pub returns-then-schema-node-ne48 : goal.returns-then-schema-node-ne48
-returns-then-schema-node-ne48 c = search other_node
+returns-then-schema-node-ne48 c =
+    elim c.then-schema-node-ne48.branch [
+      | then-schema-node-ne48-via-then-schema-node-ne48 w ↦ other_node _ _ w.if-schema-node-ne48.true
+      | then-schema-node-ne48-via-else-schema-node-ne48+then-left-ne2 w ↦ other_left _ _ w.if-schema-node-ne48.false w.if-left-ne2.true
+    ]
 
 pub bounds-left-0 : goal.bounds-left-0
 bounds-left-0 c = search (rules, left_in)
-
-pub returns-then-left-ne2 : goal.returns-then-left-ne2
-returns-then-left-ne2 c = search other_left
 
 pub overflow_add-from : goal.overflow_add-from
 overflow_add-from c = search (rules, node_in)

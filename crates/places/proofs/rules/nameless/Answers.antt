@@ -1,12 +1,6 @@
--- `nameless`: present, and the table has no id.
-use Rattle.places.proofs.RuleLaws.{not_present, named_there, named_nowhere}
+-- `nameless`: a field that is present, by what the table tells.
+use Rattle.places.proofs.RuleLaws.{nowhere_told}
 use Rattle.places.proofs.rules.nameless.Goals as goal
 
-pub returns-then-not-present : goal.returns-then-not-present
-returns-then-not-present c = search not_present
-
-pub returns-in-At : goal.returns-in-At
-returns-in-At c = search (named_there, named_nowhere)
-
-pub returns-in-Nowhere : goal.returns-in-Nowhere
-returns-in-Nowhere c = search (named_there, named_nowhere)
+pub returns-then-present : goal.returns-then-present
+returns-then-present c = nowhere_told _ c.if-present.true _ c.field_id.ensures _ c.is_none.ensures

@@ -6,5 +6,5 @@ use Rattle.putting.proofs.container.count_size.Goals as goal
 pub returns-then-count-le255 : goal.returns-then-count-le255
 returns-then-count-le255 c = search (rules, few_size)
 
-pub returns : goal.returns
-returns c = search (rules, many_size)
+pub returns-else-count-le255 : goal.returns-else-count-le255
+returns-else-count-le255 c = search (rules, many_size)

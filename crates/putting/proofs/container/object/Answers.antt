@@ -7,10 +7,7 @@ pub returns-then-start-floor : goal.returns-then-start-floor
 returns-then-start-floor c = search (rules, object_full)
 
 pub object_head-requires : goal.object_head-requires
-object_head-requires c = record {
-  readings = (search rules, search rules, search rules, search rules, search (rules, object_fits));
-  id_in_bounds = (search rules, search rules, search rules, search rules);
-}
+object_head-requires c = record { room = (search rules, search rules, search rules, search (rules, object_fits)); ranked = search rules }
 
 pub returns : goal.returns
 returns c = search (rules, object_put)

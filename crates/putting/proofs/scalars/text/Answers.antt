@@ -6,5 +6,5 @@ use Rattle.putting.proofs.scalars.text.Goals as goal
 pub returns-then-s-le63 : goal.returns-then-s-le63
 returns-then-s-le63 c = search (rules, text_short)
 
-pub returns : goal.returns
-returns c = search (rules, text_long)
+pub returns-else-s-le63 : goal.returns-else-s-le63
+returns-else-s-le63 c = search (rules, text_long)

@@ -1,4 +1,3 @@
-use Prim.Native.Nat.{◌-◌}
 use borrow.Author.Rules.{rules}
 use Rattle.ranking.proofs.PlaceLaws.{place_start, place_inside, place_next, place_done}
 use Rattle.ranking.proofs.ranks.place.Goals as goal

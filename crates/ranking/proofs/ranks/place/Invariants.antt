@@ -1,11 +1,6 @@
 -- `place`: the ids so far have their places.
-use Prim.Native.Nat.{◌-◌}
-use lib.ListN.{length}
 use Rattle.ranking.proofs.PlaceLaws.{Placed}
 use Rattle.ranking.proofs.ranks.place.Given as goal
 
 abbrev pub invariant-loop-i : goal.invariant-loop-i
 invariant-loop-i l = Placed l.ids l.initial.ranks l.ranks l.i
-
-abbrev pub decreases-loop-i : goal.decreases-loop-i
-decreases-loop-i l = length l.ids - l.i

@@ -8,7 +8,7 @@ pub fold-requires : goal.fold-requires
 fold-requires c = let pre = c.requires in
     let sorted = c.sort.ensures in
     let size = sorted.size in
-    (pre.0, sorted_below _ _ sorted pre.1, sorted.order, pre.2, omega arith)
+    (sorted_below _ _ sorted pre.0, sorted.order, pre.1, omega arith)
 
 pub returns : goal.returns
 returns c = fold_sorted c.sort.ensures c.fold.ensures

@@ -12,9 +12,8 @@ returns-then-second-j c = search (rules, takes_all)
 
 pub name_before-requires : goal.name_before-requires
 name_before-requires c = let pre = c.requires in (
-  pre.0,
-  entry_below _ _ _ _ pre.2 c.if-second-j.false c.id_at.ensures.0,
-  entry_below _ _ _ _ pre.1 c.if-first-i.false c.id_at-2.ensures.0,
+  entry_below _ _ _ _ pre.1 c.if-second-j.false c.id_at.ensures.0,
+  entry_below _ _ _ _ pre.0 c.if-first-i.false c.id_at-2.ensures.0,
 )
 
 pub returns : goal.returns

@@ -1,4 +1,3 @@
-use Prim.Native.Nat.{◌-◌}
 use borrow.Author.Rules.{rules}
 use Rattle.ranking.proofs.MergeLaws.{takes_there, takes_other, merge_start, merge_first, merge_second, merge_done}
 use Rattle.ranking.proofs.sorting.merge.Goals as goal

@@ -4,6 +4,3 @@ use Rattle.remainder.proofs.left.copy_noted.Given as goal
 
 abbrev pub invariant-loop-i : goal.invariant-loop-i
 invariant-loop-i l = CopySeen l.s l.members l.notes l.count l.initial.out l.out l.end l.start l.i
-
-abbrev pub decreases-loop-i : goal.decreases-loop-i
-decreases-loop-i l = l.i

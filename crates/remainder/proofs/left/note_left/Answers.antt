@@ -1,6 +1,5 @@
 use mathlib.Core.Bool.{not}
 use mathlib.Core.Path.{ap, ◌∙◌}
-use Prim.Native.Nat.{◌-◌}
 use borrow.Author.Rules.{rules}
 use Rattle.remainder.proofs.NoteLaws.{note_start, note_done, note_id, note_fields, note_tabled, note_entry, note_number, note_place, note_ids, note_named, note_left_lem}
 use Rattle.remainder.proofs.left.note_left.Goals as goal

@@ -1,16 +1,13 @@
 -- `names_id`: by where the fields end, and what the table tells.
-use borrow.Author.Rules.{rules}
-use Rattle.remainder.proofs.TestLaws.{none_names, names_at, names_none}
+use Rattle.std.proofs.Common.{arith}
+use Rattle.std.proofs.lemmas.Grind.{common_steps}
+use Rattle.remainder.specs.Passing.{is_id, names_id}
 use Rattle.remainder.proofs.passing.names_id.Goals as goal
 
-pub returns-then-to-place : goal.returns-then-to-place
-returns-then-to-place c = search (rules, none_names)
+pub returns-then-place-to : goal.returns-then-place-to
+unfolding names_id is_id
+returns-then-place-to c = grind (arith, common_steps)
 
-pub field_id-looked-requires : goal.field_id-looked-requires
-field_id-looked-requires c = c.requires (search rules)
-
-pub returns-in-At : goal.returns-in-At
-returns-in-At c = search (rules, names_at)
-
-pub returns-in-Nowhere : goal.returns-in-Nowhere
-returns-in-Nowhere c = search (rules, names_none)
+pub returns-else-place-to : goal.returns-else-place-to
+unfolding names_id is_id
+returns-else-place-to c = grind (arith, common_steps)

@@ -1,4 +1,3 @@
-use Prim.Native.Nat.{◌-◌}
 use borrow.Author.Rules.{rules}
 use Rattle.remainder.proofs.PassLaws.{pass_start, pass_entry, pass_here, pass_frame, pass_next, pass_end}
 use Rattle.remainder.proofs.passing.pass.Goals as goal
@@ -9,8 +8,8 @@ loop-place-init c = search (rules, pass_start)
 pub reaches-requires : goal.reaches-requires
 reaches-requires c = search (rules, pass_entry)
 
-pub returns-then-reaches : goal.returns-then-reaches
-returns-then-reaches c = search (rules, pass_here)
+pub returns-else-not-reaches : goal.returns-else-not-reaches
+returns-else-not-reaches c = search (rules, pass_here)
 
 pub frame_end-place-requires : goal.frame_end-place-requires
 frame_end-place-requires c = search (rules, pass_frame)
@@ -18,5 +17,5 @@ frame_end-place-requires c = search (rules, pass_frame)
 pub loop-place-preserved : goal.loop-place-preserved
 loop-place-preserved c = search (rules, pass_next)
 
-pub returns : goal.returns
-returns c = search (rules, pass_end)
+pub returns-after-loop-place : goal.returns-after-loop-place
+returns-after-loop-place c = search (rules, pass_end)

@@ -1,6 +1,5 @@
 use mathlib.Core.Path.{ap}
 use mathlib.Core.Bool.{not}
-use Prim.Native.Nat.{◌-◌}
 use native.Mathlib.Omega.{arith}
 use borrow.Author.Rules.{rules}
 use Rattle.schemas.proofs.NodeLaws.{node_none, node_short, node_unfilled, node_leftover, node_column, node_list, node_fields, node_other}
@@ -47,17 +46,19 @@ node-returns-then-to-from-lt3 t c = search (rules, node_short)
 pub node-returns-then-to-body : goal.node-returns-then-to-body
 node-returns-then-to-body t c = search (rules, node_unfilled)
 
-pub node-returns-then-tag-eq0 : goal.node-returns-then-tag-eq0
-node-returns-then-tag-eq0 t c = search (rules, node_leftover)
+pub node-returns-in-0 : goal.node-returns-in-0
+node-returns-in-0 t c = search (rules, node_leftover)
 
-pub node-returns-then-tag-eq16 : goal.node-returns-then-tag-eq16
-node-returns-then-tag-eq16 t c = search (rules, node_column)
+pub node-returns-in-16 : goal.node-returns-in-16
+node-returns-in-16 t c = search (rules, node_column)
 
-pub node-returns-then-tag-eq32 : goal.node-returns-then-tag-eq32
-node-returns-then-tag-eq32 t c = search (rules, node_list)
+pub node-returns-in-32 : goal.node-returns-in-32
+node-returns-in-32 t c = search (rules, node_list)
 
-pub node-returns-then-tag-eq48 : goal.node-returns-then-tag-eq48
-node-returns-then-tag-eq48 t c = search (rules, node_fields)
+pub node-returns-in-48 : goal.node-returns-in-48
+node-returns-in-48 t c = search (rules, node_fields)
 
-pub node-returns : goal.node-returns
-node-returns t c = search (rules, node_other)
+pub node-returns-in_default : goal.node-returns-in_default
+node-returns-in_default t c =
+    node_other c.args.levels c.args.s.now c.args.from c.args.to c.requires.0 c.requires.1 c.if-to-from-lt3.false c.read.result c.read.ensures.0 c.if-to-body.false
+    c.if-levels-eq0.false (λ e. omega arith) (λ e. omega arith) (λ e. omega arith) (λ e. omega arith)

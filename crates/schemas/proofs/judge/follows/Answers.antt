@@ -6,5 +6,5 @@ use Rattle.schemas.proofs.judge.follows.Goals as goal
 pub returns-then-last-place : goal.returns-then-last-place
 returns-then-last-place c = search (rules, follows_first)
 
-pub returns : goal.returns
-returns c = search follows_by
+pub returns-else-last-place : goal.returns-else-last-place
+returns-else-last-place c = search follows_by

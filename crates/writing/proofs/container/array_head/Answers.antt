@@ -10,9 +10,9 @@ write_offsets-offsets-requires c = search (rules, offsets_fit)
 pub opened-requires : goal.opened-requires
 opened-requires c = let pre = c.requires in
     let width_is = c.width_of-width.ensures.0 in
-    let behind = start_behind pre.1 in
-    let before = offsets_before pre.1 _ 0 _ width_is pre.4 c.write_offsets-offsets.ensures in
-    (search rules, array_opens pre.1 _ 0 _ width_is pre.4 c.write_offsets-offsets.ensures, omega arith)
+    let behind = start_behind pre.0 in
+    let before = offsets_before pre.0 _ 0 _ width_is pre.3 c.write_offsets-offsets.ensures in
+    (search rules, array_opens pre.0 _ 0 _ width_is pre.3 c.write_offsets-offsets.ensures, omega arith)
 
 pub returns : goal.returns
 returns c = search (rules, array_headed)

@@ -2,20 +2,14 @@
 use Prim.Native.Nat.{◌≤◌}
 use native.Mathlib.Omega.{arith}
 use borrow.Author.Rules.{rules}
-use Rattle.writing.proofs.ScalarLaws.{other_asks, long_asks, short_asks, short_first, other_ends, long_ends, short_ends}
+use Rattle.writing.proofs.ScalarLaws.{kept_asks, short_asks, short_first, kept_ends, short_ends}
 use Rattle.writing.proofs.scalars.prefixed.Goals as goal
 
 pub copied-requires : goal.copied-requires
-copied-requires c = search (rules, other_asks)
+copied-requires c = (kept_asks c.args.code c.args.s.now c.requires.1 c.then-code-ne16.either, c.requires.2)
 
 pub returns-then-code-ne16 : goal.returns-then-code-ne16
-returns-then-code-ne16 c = search (rules, other_ends)
-
-pub copied-requires-then-s-gt68 : goal.copied-requires-then-s-gt68
-copied-requires-then-s-gt68 c = search (rules, long_asks)
-
-pub returns-then-s-gt68 : goal.returns-then-s-gt68
-returns-then-s-gt68 c = search (rules, long_ends)
+returns-then-code-ne16 c = kept_ends _ _ c.then-code-ne16.either c.copied.ensures
 
 pub copied-start-requires : goal.copied-start-requires
 copied-start-requires c = search (rules, short_asks)

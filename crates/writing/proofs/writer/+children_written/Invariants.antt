@@ -11,7 +11,4 @@ abbrev pub decreases-written : goal.decreases-written
 decreases-written l = 2 * l.levels
 
 abbrev pub invariant-children-loop-i : goal.invariant-children-loop-i
-invariant-children-loop-i l = ChildrenSeen l.levels l.s l.ranks l.counted l.id l.width l.area l.starts l.initial.out l.out l.count l.end l.start l.i
-
-abbrev pub decreases-children-loop-i : goal.decreases-children-loop-i
-decreases-children-loop-i l = l.i
+invariant-children-loop-i l = ChildrenSeen l.levels l.area l.container.starts l.ranks l.initial.out l.out l.end l.start l.i

@@ -1,0 +1,1 @@
+-- A run is the numbers of `paper` (`Words.antt`): nothing is defined here.
