@@ -7,6 +7,6 @@ mod fields;
 mod opened;
 mod shape;
 
-pub use children::child_extent;
+pub use children::{Lying, child_extent};
 pub use opened::{Container, array, object};
 pub use shape::{array_lies, object_lies};

@@ -10,7 +10,7 @@ use lib.Dec.{ltb}
 use lib.ListN.{length, get_or}
 use Rattle.order.specs.Before.{before}
 use Rattle.dictionary.specs.Judging.{judged_of, Opened}
-use Rattle.dictionary.specs.Lent.{LentNames, Lent, LentBytes, lent_of}
+use Rattle.dictionary.specs.Lent.{LentNames, Lent, LentBytes, lent_of, lent_read}
 use Rattle.dictionary.specs.declared.Names.{Names}
 use Rattle.paper.specs.Metadata.{Dictionary, flag_set, offset_size, name_count, rising, names_in, dictionary_of}
 use Rattle.paper.specs.Words.{at, and_then, is_there}
@@ -19,11 +19,11 @@ use Rattle.paper.proofs.WordLaws.{some_there}
 
 -- What a contract sees of metadata and of what was read of it.
 abbrev pub seen_of : List ℕ → Names → LentNames
-seen_of m d = record { names = names_in m; sorted = d.sorted; size = length m }
+seen_of m d = record { names = names_in m; width = d.width; sorted = d.sorted; size = length m }
 
 pub opens_to : (m : List ℕ) (d : Names) → Opened m d → lent_of m ≡ Some (seen_of m d)
 unfolding lent_of and_then
-opens_to m d o = rw (opened_names o, o.sorted) refl
+opens_to m d o = rw (opened_names o, o.width, o.sorted) refl
 
 pub opens_not : (m : List ℕ) → judged_of m ≡ None → None ≡ lent_of m
 unfolding lent_of and_then
@@ -63,7 +63,7 @@ module _ {v : LentNames} (lent : Lent v) where
   m = lent.metadata
 
   abbrev read : (names : Dictionary) → LentNames
-  read names = record { names = names; sorted = flag_set (at m 0); size = length m }
+  read names = record { names = names; width = offset_size (at m 0); sorted = flag_set (at m 0); size = length m }
 
   told : (x : Option Dictionary) → and_then x (λ names. Some (read names)) ≡ Some v → (names : Dictionary) × (x ≡ Some names) × (read names ≡ v)
   unfolding and_then
@@ -82,6 +82,10 @@ module _ {v : LentNames} (lent : Lent v) where
 
   pub lent_names_in : names_in lent.metadata ≡ v.names
   lent_names_in = names_told lent.metadata v.names lent_dictionary
+
+  pub lent_is : lent_read lent.metadata ≡ v
+  unfolding lent_read
+  lent_is = ap read (names_told m opened_to.0 opened_to.1) ∙ opened_to.2
 
   pub lent_size : length lent.metadata ≡ v.size
   lent_size = ap (λ (u : LentNames). u.size) opened_to.2

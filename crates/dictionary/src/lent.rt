@@ -10,7 +10,8 @@ use crate::{Names, judged, name, names_read};
 use order::is_before;
 use std::marker::Model;
 
-// To a contract it is its names, whether they are sorted by its flag, and how long its metadata is.
+// To a contract it is its names, how many bytes an offset of it takes, whether the names are sorted by its flag, and how long
+// its metadata is.
 #[derive(Drop)]
 pub struct Dictionary<'a> {
     metadata: &'a [u8],
@@ -25,7 +26,7 @@ impl<'a> Model for Dictionary<'a> {
 
     ghost Value = { LentNames };
 
-    ghost view = { λ d. record { names = names_in d.metadata.now; sorted = d.names.sorted; size = length d.metadata.now } };
+    ghost view = { λ d. record { names = names_in d.metadata.now; width = d.names.width; sorted = d.names.sorted; size = length d.metadata.now } };
 
     ghost invariant = { λ d. Opened d.metadata.now d.names × ((i : ℕ) → get_or d.metadata.now i 0 < 256) };
 }
@@ -54,6 +55,13 @@ impl<'a> Dictionary<'a> {
         ensures lent { Lent self.now }
     {
         self.names.count
+    }
+
+    // How many bytes an offset takes.
+    pub fn width(&self) -> usize
+        ensures { result ≡ self.now.width }
+    {
+        self.names.width
     }
 
     // How many bytes its metadata has.

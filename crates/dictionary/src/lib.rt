@@ -13,7 +13,7 @@ ghost use Rattle.paper.specs.Words.{part, is_there};
 ghost use Rattle.paper.specs.Metadata.{offsets_good, cut_at, rising, names_in, dictionary_of};
 ghost use Rattle.dictionary.specs.Judging.{lawful_names, judged_of, Opened};
 
-pub use ids::{InputId, NormalId, input_id};
+pub use ids::{InputId, NormalId, input_id, input_id_at};
 pub use lent::{Dictionary, judge, open};
 use numbers::read;
 use order::is_before;

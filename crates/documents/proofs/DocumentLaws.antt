@@ -6,13 +6,13 @@ use mathlib.Core.Path.{◌≡◌, refl, sym, ap, ◌∙◌}
 use Prim.Native.Nat.{ℕ, ◌≤◌, ◌<◌}
 use borrow.Author.Tests.{le-leb, lt-leb, leb-true}
 use lib.ListN.{length}
-use Rattle.dictionary.specs.Lent.{LentNames, lent_of}
-use Rattle.documents.specs.Judged.{lent_read, document_by, document_of}
+use Rattle.dictionary.specs.Lent.{LentNames, lent_of, lent_read}
+use Rattle.documents.specs.Judged.{document_by, document_of}
 use lib.Dec.{leb}
 use Rattle.paper.specs.declared.Refusal.{Refusal}
 use Rattle.paper.specs.Meaning.{Doc}
 use Rattle.paper.specs.Limits.{most_metadata, most_value, most_levels}
-use Rattle.paper.specs.Metadata.{Dictionary, flag_set, dictionary_of, names_in}
+use Rattle.paper.specs.Metadata.{Dictionary, flag_set, offset_size, dictionary_of, names_in}
 use Rattle.paper.specs.Operations.{judged, document_fits, check_outcome, value_judged}
 use Rattle.paper.specs.Refusals.{require, obtain, Outcome}
 use Rattle.paper.specs.Values.{meaning_of}
@@ -33,7 +33,7 @@ opened_none : (m : List ℕ) → lent_of m ≡ None → dictionary_of m ≡ None
 unfolding lent_of and_then
 opened_none m e = go (dictionary_of m) e
   where
-    go : (x : Option Dictionary) → and_then {B = LentNames} x (λ names. Some (record { names = names; sorted = flag_set (at m 0); size = length m })) ≡ None → x ≡ None
+    go : (x : Option Dictionary) → and_then {B = LentNames} x (λ names. Some (record { names = names; width = offset_size (at m 0); sorted = flag_set (at m 0); size = length m })) ≡ None → x ≡ None
     go None f = refl
     go (Some names) f = cc
 

@@ -1,15 +1,9 @@
 -- A lent document judged: what its metadata opens to where both keep their rules, else the lowest refusal.
-use Rattle.std.specs.Prelude.{List, ℕ, length, Err, Ok}
-use Rattle.paper.specs.Words.{at}
+use Rattle.std.specs.Prelude.{List, ℕ, Err, Ok}
 use Rattle.paper.specs.Refusals.{Outcome}
-use Rattle.paper.specs.Metadata.{flag_set, names_in}
 use Rattle.paper.specs.Meaning.{Doc}
 use Rattle.paper.specs.Operations.{check_outcome}
-use Rattle.dictionary.specs.Lent.{LentNames}
-
--- What `lent_of` opens metadata to where it keeps its rules, read of any metadata.
-unfoldable pub lent_read : List ℕ → LentNames
-lent_read metadata = record { names = names_in metadata; sorted = flag_set (at metadata 0); size = length metadata }
+use Rattle.dictionary.specs.Lent.{LentNames, lent_read}
 
 unfoldable pub document_by : LentNames → Outcome Doc → Outcome LentNames
 document_by names (Err r) = Err r

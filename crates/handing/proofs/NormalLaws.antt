@@ -18,7 +18,7 @@ use Rattle.names.proofs.MetadataLaws.{metadata_length, width_bounds, flag_set_le
 use Rattle.names.proofs.UsedLaws.{names_rise}
 use Rattle.paper.proofs.WordLaws.{never, some_there}
 use Rattle.paper.specs.Bounds.{most_names}
-use Rattle.paper.specs.Metadata.{Dictionary, flag_set, dictionary_of}
+use Rattle.paper.specs.Metadata.{Dictionary, flag_set, offset_size, dictionary_of}
 use Rattle.paper.specs.Normal.{names_used, metadata_width, metadata_bytes}
 use Rattle.paper.specs.Operations.{row_outcome}
 use Rattle.paper.specs.Schemas.{Schema, schema_of}
@@ -69,7 +69,7 @@ module _ {schema metadata value : List ℕ} (normal : Normalised schema metadata
 
   -- what a contract sees of it
   seen : LentNames
-  seen = record { names = Used; sorted = true; size = length metadata }
+  seen = record { names = Used; width = offset_size (at metadata 0); sorted = true; size = length metadata }
 
   used_within : length Used ≤ length metadata
   used_within = rw normal.metadata_is (metadata_holds Used).0

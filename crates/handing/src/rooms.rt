@@ -27,7 +27,9 @@ pub fn hand_out(metadata: &[u8], place: &[u8], row: &mut [u8]) -> RowAnswer
     Ok(size)
 }
 
-// Cuts the value into a room, and hands the row out.
+// Cuts the value into a room, and hands the row out. Taken into its callers it would copy out of a room that is known to be
+// theirs, by a function (`memcpy`) that the archive for C has no need of else.
+#[inline(never)]
 fn write_out(
     basis: &Basis,
     metadata: &[u8],

@@ -12,6 +12,7 @@ mod readings;
 mod tables;
 
 pub use readings::{Readings, reading};
+pub use tables::READINGS;
 
 // The payload size of a primitive type, or the mark.
 pub fn payload_size(code: usize) -> usize

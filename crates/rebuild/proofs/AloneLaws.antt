@@ -28,6 +28,7 @@ use Rattle.rebuilt.proofs.PartsLaws.{typed_meaning}
 use Rattle.rebuilt.proofs.ThereLaws.{place_only, typed_kind, typed_code, typed_cell}
 use Rattle.rebuilt.specs.Meant.{place_doc}
 use Rattle.rebuilt.specs.There.{TypedThere}
+use Rattle.rows.specs.Judging.{row_dictionary}
 use Rattle.rows.specs.declared.judging.RowParts.{RowParts}
 use Rattle.schemas.proofs.KindLaws.{column_here_lem}
 use Rattle.schemas.proofs.StandingLaws.{schema_stands}
@@ -59,7 +60,7 @@ module _ (levels : ℕ) (names : Dictionary) (body : List ℕ) where
 
 module _ {schema table : List ℕ} {row : RowParts} (judged : Judged schema row table) {p : Parts} (is : p ≡ parts_of row.outermost.now) where
   abbrev Names : Dictionary
-  Names = row.dictionary.names
+  Names = (row_dictionary row).names
 
   node : (n : Schema) × (schema_of schema ≡ Some n)
   node = there_some (schema_of schema) judged.good

@@ -7,6 +7,7 @@ use Prim.Native.Nat.{ℕ}
 use native.Mathlib.Omega.{arith}
 use lib.Dec.{leb}
 use lib.ListN.{length}
+use Rattle.dictionary.specs.Lent.{LentNames, lent_of}
 use Rattle.normalise.specs.Answered.{Answered, Lent}
 use Rattle.paper.proofs.WordLaws.{given_some, there_some, some_there}
 use Rattle.paper.specs.Limits.{most_leftover, most_levels}
@@ -28,8 +29,9 @@ use Rattle.rebuilt.proofs.HeldLaws.{Held, left_held, under_held}
 use Rattle.rebuilt.proofs.PartsLaws.{typed_meaning, meaning_parts}
 use Rattle.rebuilt.proofs.ThereLaws.{unparsed_not, LeftThere, place_leftover}
 use Rattle.rebuilt.specs.Meant.{place_doc}
+use Rattle.rows.specs.Judging.{row_dictionary}
 use Rattle.rows.specs.declared.judging.RowParts.{RowParts}
-use Rattle.rebuild.proofs.NumberedLaws.{place_lawful_lem, row_there}
+use Rattle.rebuild.proofs.NumberedLaws.{opened_is, place_lawful_lem, row_there}
 use Rattle.rebuild.specs.Rebuilding.{Judged, doc_under, row_doc}
 use Rattle.std.proofs.lemmas.Option.{same_Some}
 
@@ -65,26 +67,28 @@ module _ {schema table : List ℕ} {row : RowParts} (judged : Judged schema row 
   node = there_some (schema_of schema) judged.good
 
   abbrev names : Dictionary
-  names = row.dictionary.names
+  names = (row_dictionary row).names
 
   left : LeftThere most_levels names (part row.outermost.now 3 (length row.outermost.now))
   left = place_leftover (row_there judged) is e
 
-  pub left_lent : Lent row.dictionary (part row.outermost.now 3 (length row.outermost.now))
-  left_lent =
-      let few = left.few in
-      record {
-        meant = some_there (meaning_of most_levels names (part row.outermost.now 3 (length row.outermost.now))) left.means;
-        metadata_short = judged.handed.in_order.short;
-        value_short = omega arith;
-      }
+  -- under the dictionary that its metadata opens to
+  module _ {own : LentNames} (opened : Some own ≡ lent_of row.metadata.now) where
+    pub left_lent : Lent own (part row.outermost.now 3 (length row.outermost.now))
+    left_lent =
+        let few = left.few in
+        rw (opened_is judged opened) (record {
+          meant = some_there (meaning_of most_levels names (part row.outermost.now 3 (length row.outermost.now))) left.means;
+          metadata_short = judged.handed.in_order.short;
+          value_short = omega arith;
+        })
 
-  pub left_answers : {first first' second second' : List ℕ} {a : DocumentAnswer}
-      → ((d : Doc) → meaning_of most_levels names (part row.outermost.now 3 (length row.outermost.now)) ≡ Some d → Answered (written d) first first' second second' a)
-      → Answered (written (row_doc schema row)) first first' second second' a
-  unfolding row_doc doc_under
-  left_answers answers =
-      let same : place_doc node.0 most_levels names row.outermost.now ≡ left.doc =
-      held_doc node.0 most_levels names row.outermost.now (place_lawful_lem judged node.0 node.1) (sym is ∙ e)
-      (left_held_lem node.0 most_levels names row.outermost.now left.means) in
-      rw (node.1, same) (answers left.doc left.means)
+    pub left_answers : {first first' second second' : List ℕ} {a : DocumentAnswer}
+        → ((d : Doc) → meaning_of most_levels own.names (part row.outermost.now 3 (length row.outermost.now)) ≡ Some d → Answered (written d) first first' second second' a)
+        → Answered (written (row_doc schema row)) first first' second second' a
+    unfolding row_doc doc_under
+    left_answers answers =
+        let same : place_doc node.0 most_levels names row.outermost.now ≡ left.doc =
+        held_doc node.0 most_levels names row.outermost.now (place_lawful_lem judged node.0 node.1) (sym is ∙ e)
+        (left_held_lem node.0 most_levels names row.outermost.now left.means) in
+        rw (node.1, same) (answers left.doc (rw (opened_is judged opened) left.means))

@@ -22,7 +22,7 @@ use Rattle.paper.specs.Words.{part, and_then}
 use Rattle.places.proofs.HalfLaws.{halved}
 use Rattle.places.proofs.VerdictLaws.{place_under_lem}
 use Rattle.rebuilt.specs.Meant.{place_doc}
-use Rattle.rows.specs.Judging.{InOrder}
+use Rattle.rows.specs.Judging.{row_dictionary, InOrder}
 use Rattle.rows.specs.declared.judging.RowParts.{RowParts}
 use Rattle.rebuild.specs.Rebuilding.{Judged, doc_under, row_doc}
 use Rattle.std.proofs.lemmas.Option.{same_Some}
@@ -36,7 +36,7 @@ place_tag node names piece e =
 
 module _ {bytes : List ℕ} {row : RowParts} (here : InOrder bytes row) (node : Schema) (parsed : Row) (e : row_of node bytes ≡ Some parsed) where
   abbrev Names : Dictionary
-  Names = row.dictionary.names
+  Names = (row_dictionary row).names
 
   -- The row's outermost place was read under the metadata's names.
   outermost_read : place_under node most_levels Names (record { tag = 0x50; body = row.outermost.now }) ≡ Some parsed.outermost

@@ -1,6 +1,8 @@
 -- A row that was judged lawful: what the gathering of its ids asks, and, with these marked and ranked, what the writing of its
 -- document asks and what is then written.
 use Rattle.std.specs.Prelude.{Some, Option}
+use Rattle.std.proofs.lemmas.Option.{same_Some}
+use mathlib.Core.Bool.{true}
 use mathlib.Core.List.{List}
 use mathlib.Core.Path.{◌≡◌, sym, ap, subst, ◌∙◌}
 use Prim.Native.Nat.{ℕ, ◌+◌, ◌*◌, ◌≤◌}
@@ -9,8 +11,8 @@ use native.Mathlib.Omega.{arith}
 use lib.ListN.{length, replicate, take, length-take, length-drop}
 use Rattle.building.proofs.MemberLaws.{part_bytes}
 use Rattle.building.specs.Building.{Bytes, Enough, PlaceReady}
-use Rattle.dictionary.proofs.LentLaws.{lent_dictionary, lent_size}
-use Rattle.dictionary.specs.Lent.{LentNames, Lent}
+use Rattle.dictionary.proofs.LentLaws.{lent_dictionary, lent_there, lent_size}
+use Rattle.dictionary.specs.Lent.{LentNames, Lent, lent_of}
 use Rattle.gathering.specs.Gathering.{PlaceReady as Gatherable}
 use Rattle.marking.specs.Ids.{mark_ids}
 use Rattle.names.proofs.NeverLongerLaws.{never_longer, read_length}
@@ -21,10 +23,10 @@ use Rattle.paper.proofs.WordLaws.{there_some}
 use Rattle.paper.specs.Bounds.{most_names}
 use Rattle.paper.specs.Limits.{most_levels, most_metadata}
 use Rattle.paper.specs.Meaning.{Doc}
-use Rattle.paper.specs.Metadata.{Dictionary, offset_size}
+use Rattle.paper.specs.Metadata.{Dictionary, offset_size, dictionary_of}
 use Rattle.paper.specs.Normal.{names_used, metadata_bytes, value_bytes, normal_form}
 use Rattle.paper.specs.Schemas.{Schema, schema_of}
-use Rattle.paper.specs.Words.{at, part}
+use Rattle.paper.specs.Words.{at, part, is_there}
 use Rattle.places.specs.Verdicts.{place_verdict}
 use Rattle.places.specs.declared.verdicts.Verdict.TheVariants.{Lawful}
 use Rattle.putting.specs.Put.{PutAs}
@@ -36,6 +38,7 @@ use Rattle.rebuilt.specs.Meant.{place_doc}
 use Rattle.rebuilt.specs.Rebuilt.{place_rebuilt}
 use Rattle.rebuilt.specs.There.{PlaceThere, Numbered as NumberedIds}
 use Rattle.rebuilt.specs.Using.{place_ids}
+use Rattle.rows.specs.Judging.{row_dictionary}
 use Rattle.rows.specs.declared.judging.RowParts.{RowParts}
 use Rattle.schemas.proofs.StandingLaws.{schema_stands}
 use Rattle.schemas.specs.Positions.{Stands}
@@ -56,7 +59,7 @@ few_names {d} lent short =
 
 -- Under its schema's node, what a row means.
 doc_under_lem : (schema : List ℕ) (row : RowParts) (node : Schema) → schema_of schema ≡ Some node
-    → row_doc schema row ≡ place_doc node most_levels row.dictionary.names row.outermost.now
+    → row_doc schema row ≡ place_doc node most_levels (row_dictionary row).names row.outermost.now
 unfolding row_doc doc_under
 doc_under_lem schema row node is = rw is
 
@@ -66,13 +69,23 @@ module _ {schema table : List ℕ} {row : RowParts} (judged : Judged schema row 
   outermost_short = rw (judged.handed.in_order.holds, length-take, length-drop) (omega arith)
 
   -- Its metadata opens to its dictionary.
-  pub lent : Lent row.dictionary
+  pub lent : Lent (row_dictionary row)
   lent = record { metadata = part judged.bytes 3 judged.handed.in_order.middle; opens = judged.handed.in_order.opens }
 
-  pub place_lawful_lem : (node : Schema) → schema_of schema ≡ Some node → place_verdict node most_levels row.dictionary.names row.outermost.now ≡ Lawful
+  -- So the metadata that was handed on keeps its rules, and what is opened of it is that dictionary.
+  opens : lent_of row.metadata.now ≡ Some (row_dictionary row)
+  opens = ap lent_of judged.handed.in_order.found ∙ judged.handed.in_order.opens
+
+  pub metadata_there : is_there (dictionary_of row.metadata.now) ≡ true
+  metadata_there = lent_there (record { metadata = row.metadata.now; opens = opens })
+
+  pub opened_is : {d : LentNames} → Some d ≡ lent_of row.metadata.now → d ≡ row_dictionary row
+  opened_is {d} e = same_Some d (row_dictionary row) (e ∙ opens)
+
+  pub place_lawful_lem : (node : Schema) → schema_of schema ≡ Some node → place_verdict node most_levels (row_dictionary row).names row.outermost.now ≡ Lawful
   place_lawful_lem node is = judged.handed.in_order.comes_to node ∙ judged.lawful node is
 
-  pub row_there : PlaceThere most_levels row.dictionary.names schema table 0 row.outermost.now
+  pub row_there : PlaceThere most_levels (row_dictionary row).names schema table 0 row.outermost.now
   row_there =
       let got = there_some (schema_of schema) judged.good in
       record {
@@ -83,22 +96,22 @@ module _ {schema table : List ℕ} {row : RowParts} (judged : Judged schema row 
         lawful = place_lawful_lem got.0 got.1;
       }
 
-  pub count_few : length row.dictionary.names ≤ most_names
+  pub count_few : length (row_dictionary row).names ≤ most_names
   count_few = few_names lent judged.handed.in_order.short
 
   -- what the gathering asks, of a table that has an entry for each name
-  pub gatherable : (size : ℕ) → length row.dictionary.names ≤ size → Gatherable most_levels schema table 0 row.outermost.now size
+  pub gatherable : (size : ℕ) → length (row_dictionary row).names ≤ size → Gatherable most_levels schema table 0 row.outermost.now size
   gatherable size room =
       let within = outermost_short in
       let short = judged.row_short in
-      record { names = row.dictionary.names; there = row_there; room = omega arith; small = omega arith }
+      record { names = (row_dictionary row).names; there = row_there; room = omega arith; small = omega arith }
 
   module _ {before used : List ℕ}
       (marks : (under : Schema) → Stands most_levels schema 0 under → used ≡ mark_ids before (place_ids under most_levels schema table 0 row.outermost.now))
-      (clean : before ≡ replicate (length before) 0) (room : length row.dictionary.names ≤ length before)
-      {ranks chosen : List ℕ} {picked : ℕ} (ranked : Ranked row.dictionary.names used ranks chosen picked) where
+      (clean : before ≡ replicate (length before) 0) (room : length (row_dictionary row).names ≤ length before)
+      {ranks chosen : List ℕ} {picked : ℕ} (ranked : Ranked (row_dictionary row).names used ranks chosen picked) where
     abbrev Names : Dictionary
-    Names = row.dictionary.names
+    Names = (row_dictionary row).names
 
     abbrev body : List ℕ
     body = row.outermost.now
@@ -139,7 +152,7 @@ module _ {schema table : List ℕ} {row : RowParts} (judged : Judged schema row 
       let here = judged.handed.in_order in
       let told = judged.handed.told got.0 got.1 in
       let lawful = place_lawful_lem got.0 got.1 in
-      let names : Dictionary = row.dictionary.names in
+      let names : Dictionary = (row_dictionary row).names in
       let d : Doc = place_doc got.0 most_levels names row.outermost.now in
       let below = place_ids-below got.0 most_levels names schema table 0 row.outermost.now told lawful in
       let used = place_ids-used got.0 most_levels names schema table 0 row.outermost.now told lawful in
@@ -161,7 +174,7 @@ module _ {schema : List ℕ} {row : RowParts} {table ranks chosen : List ℕ} (n
       let room = n.ranked in
       let there = row_there n.judged in
       record {
-        names = row.dictionary.names;
+        names = (row_dictionary row).names;
         normal = names_used (row_doc schema row);
         ground = record { few = few; ranked = room; schema_short = n.judged.schema_short };
         there = there;
@@ -177,7 +190,7 @@ module _ {schema : List ℕ} {row : RowParts} {table ranks chosen : List ℕ} (n
   rebuilt_is node is =
       let within = outermost_short n.judged in
       let short = n.judged.row_short in
-      place_rebuilt_lem node most_levels row.dictionary.names (names_used (row_doc schema row)) ranks schema table 0 row.outermost.now
+      place_rebuilt_lem node most_levels (row_dictionary row).names (names_used (row_doc schema row)) ranks schema table 0 row.outermost.now
       (schema_stands schema node is).0 (n.judged.handed.told node is) (place_lawful_lem n.judged node is) (names_rise (row_doc schema row))
       (n.numbered node is) n.bytes (omega arith)
       ∙ ap (value_bytes (names_used (row_doc schema row))) (sym (doc_under_lem schema row node is))

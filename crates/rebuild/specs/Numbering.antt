@@ -11,6 +11,7 @@ use Rattle.paper.specs.Operations.{written}
 use Rattle.paper.specs.Schemas.{Schema, schema_of}
 use Rattle.rebuilt.specs.There.{Numbered as NumberedIds}
 use Rattle.rebuilt.specs.Using.{place_ids}
+use Rattle.rows.specs.Judging.{row_dictionary}
 use Rattle.rows.specs.declared.judging.RowParts.{RowParts}
 use Rattle.rebuild.specs.Rebuilding.{Judged, row_doc}
 use Rattle.rebuild.specs.declared.rooms.NumberedRow.{NumberedRow}
@@ -18,19 +19,19 @@ use Rattle.rebuild.specs.declared.rooms.NumberedRow.{NumberedRow}
 -- The chosen ids name exactly the names used, and each used id's rank is its name's place there.
 pub record Numbered (schema : List ℕ) (row : RowParts) (table ranks chosen : List ℕ) : Type 0 where
   pub judged : Judged schema row table
-  pub choice : Chosen row.dictionary chosen
-  pub used : chosen_names row.dictionary.names chosen ≡ names_used (row_doc schema row)
-  pub ranked : length row.dictionary.names ≤ length ranks
+  pub choice : Chosen (row_dictionary row) chosen
+  pub used : chosen_names (row_dictionary row).names chosen ≡ names_used (row_doc schema row)
+  pub ranked : length (row_dictionary row).names ≤ length ranks
   pub numbered : (under : Schema) → schema_of schema ≡ Some under
-      → NumberedIds row.dictionary.names (names_used (row_doc schema row)) ranks (place_ids under most_levels schema table 0 row.outermost.now)
+      → NumberedIds (row_dictionary row).names (names_used (row_doc schema row)) ranks (place_ids under most_levels schema table 0 row.outermost.now)
   pub bytes : Bytes row.outermost.now
 
 abbrev pub IsNumbered : NumberedRow → Type 0
-IsNumbered n = Numbered n.schema.now n.row.now n.table.now n.ranks.now n.chosen.now
+IsNumbered n = Numbered n.schema.now n.row.now.parts n.table.now n.ranks.now n.chosen.now
 
 -- What it means.
 abbrev pub doc_of : NumberedRow → Doc
-doc_of n = row_doc n.schema.now n.row.now
+doc_of n = row_doc n.schema.now n.row.now.parts
 
 -- ---- a document that was to be written by way of a room: it is answered, or the room above the floor is too short for it, and
 -- the lent buffers are as they were

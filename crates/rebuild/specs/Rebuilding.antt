@@ -8,7 +8,7 @@ use Rattle.paper.specs.Words.{is_there}
 use Rattle.places.specs.Verdicts.{row_verdict}
 use Rattle.places.specs.declared.verdicts.Verdict.TheVariants.{Lawful}
 use Rattle.rebuilt.specs.Meant.{place_doc}
-use Rattle.rows.specs.Judging.{HandedOn}
+use Rattle.rows.specs.Judging.{row_dictionary, HandedOn}
 use Rattle.rows.specs.declared.judging.RowParts.{RowParts}
 
 -- What was read of a row, some bytes, that was judged lawful under a good schema, with what its judge hands on.
@@ -28,4 +28,4 @@ doc_under None names body = null
 doc_under (Some node) names body = place_doc node most_levels names body
 
 unfoldable pub row_doc : (schema : List ℕ) → RowParts → Doc
-row_doc schema row = doc_under (schema_of schema) row.dictionary.names row.outermost.now
+row_doc schema row = doc_under (schema_of schema) (row_dictionary row).names row.outermost.now

@@ -28,7 +28,7 @@ use crate::rooms::{NumberedRow, with_room};
 use heads::Readings;
 use paper::DocumentAnswer;
 use places::Parts;
-use rows::RowParts;
+use rows::{OpenRow, RowParts};
 use schemas::Kind;
 
 // Marks the ids that an outermost place uses. What it holds are bytes.
@@ -48,7 +48,7 @@ fn mark_used(readings: &Readings, schema: &[u8], table: &[u16], outermost: &[u8]
 // Numbers the names that the row uses, in tables that have an entry for each name of its dictionary.
 fn with_tables(
     schema: &[u8],
-    row: &RowParts,
+    row: &OpenRow,
     table: &[u16],
     used: &mut [u8],
     ranks: &mut [u16],
@@ -56,11 +56,11 @@ fn with_tables(
     metadata_out: &mut [u8],
     value_out: &mut [u8],
 ) -> DocumentAnswer
-    requires { Judged schema.now row.now table.now × (length row.now.dictionary.names ≤ length used.old) × (length row.now.dictionary.names ≤ length ranks.old) × (length row.now.dictionary.names ≤ length chosen.old) × (used.old ≡ replicate (length used.old) 0) }
-    ensures { Answered (written (row_doc schema.now row.now)) metadata_out.old metadata_out.new value_out.old value_out.new result }
+    requires { Judged schema.now row.now.parts table.now × (length row.now.dictionary.names ≤ length used.old) × (length row.now.dictionary.names ≤ length ranks.old) × (length row.now.dictionary.names ≤ length chosen.old) × (used.old ≡ replicate (length used.old) 0) }
+    ensures { Answered (written (row_doc schema.now row.now.parts)) metadata_out.old metadata_out.new value_out.old value_out.new result }
 {
     let readings = Readings::new();
-    mark_used(&readings, schema, table, row.outermost, used);
+    mark_used(&readings, schema, table, row.parts.outermost, used);
     let count = ranking::rank(&row.dictionary, used, ranks, chosen);
     let numbered = NumberedRow {
         readings: &readings,
@@ -76,13 +76,13 @@ fn with_tables(
 // Writes by way of tables of N entries.
 fn in_tables<const N: usize>(
     schema: &[u8],
-    row: &RowParts,
+    row: &OpenRow,
     table: &[u16],
     metadata_out: &mut [u8],
     value_out: &mut [u8],
 ) -> DocumentAnswer
-    requires { Judged schema.now row.now table.now × (length row.now.dictionary.names ≤ N) × (N ≤ most_walked) }
-    ensures { Answered (written (row_doc schema.now row.now)) metadata_out.old metadata_out.new value_out.old value_out.new result }
+    requires { Judged schema.now row.now.parts table.now × (length row.now.dictionary.names ≤ N) × (N ≤ most_walked) }
+    ensures { Answered (written (row_doc schema.now row.now.parts)) metadata_out.old metadata_out.new value_out.old value_out.new result }
 {
     let mut used = [0u8; N];
     let mut ranks = [0u16; N];
@@ -110,10 +110,14 @@ fn by_tables(
     requires { Judged schema.now row.now table.now }
     ensures { Answered (written (row_doc schema.now row.now)) metadata_out.old metadata_out.new value_out.old value_out.new result }
 {
-    match row.dictionary.len() {
-        0..=64 => in_tables::<64>(schema, row, table, metadata_out, value_out),
-        65..=1024 => in_tables::<1024>(schema, row, table, metadata_out, value_out),
-        _ => in_tables::<16384>(schema, row, table, metadata_out, value_out),
+    let opened = OpenRow {
+        parts: *row,
+        dictionary: dictionary::open(row.metadata),
+    };
+    match opened.dictionary.len() {
+        0..=64 => in_tables::<64>(schema, &opened, table, metadata_out, value_out),
+        65..=1024 => in_tables::<1024>(schema, &opened, table, metadata_out, value_out),
+        _ => in_tables::<16384>(schema, &opened, table, metadata_out, value_out),
     }
 }
 
@@ -149,7 +153,7 @@ pub fn rebuild(
     match places::split(row.outermost) {
         Parts::Empty => lone::null(metadata_out, value_out),
         Parts::Leftover => normalise::normalise(
-            &row.dictionary,
+            &dictionary::open(row.metadata),
             &row.outermost[3..],
             metadata_out,
             value_out,

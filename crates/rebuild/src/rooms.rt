@@ -11,14 +11,14 @@ use building::Build;
 use heads::Readings;
 use normalise::hand_out;
 use paper::{DocumentAnswer, Refusal, Unwritten};
-use rows::RowParts;
+use rows::OpenRow;
 
 // A lawful row, each schema field's id in its dictionary, and its names numbered: each id's rank, and the ids chosen.
 #[derive(Drop)]
 pub struct NumberedRow<'a> {
     pub readings: &'a Readings,
     pub schema: &'a [u8],
-    pub row: &'a RowParts<'a>,
+    pub row: &'a OpenRow<'a>,
     pub table: &'a [u16],
     pub ranks: &'a [u16],
     pub chosen: &'a [u16],
@@ -34,7 +34,7 @@ fn write_out(
     metadata_out: &mut [u8],
     value_out: &mut [u8],
 ) -> Option<DocumentAnswer>
-    requires { IsNumbered numbered.now × Enough (length numbered.now.row.now.outermost.now) (length places.old) (length ids.old) floor × (floor ≤ length room.old) × (length room.old ≤ most_walked) }
+    requires { IsNumbered numbered.now × Enough (length numbered.now.row.now.parts.outermost.now) (length places.old) (length ids.old) floor × (floor ≤ length room.old) × (length room.old ≤ most_walked) }
     ensures { TriedAs (doc_of numbered.now) metadata_out.old metadata_out.new value_out.old value_out.new (length room.old) floor result }
 {
     let end = room.len();
@@ -44,10 +44,11 @@ fn write_out(
         schema: numbered.schema,
         table: numbered.table,
     };
-    let body = numbered.row.outermost;
+    let row = numbered.row;
+    let body = row.parts.outermost;
     let start = build.place(paper::MOST_LEVELS, 0, body, places, ids, room, floor, end)?;
     let value = &room[start..end];
-    let dictionary = &numbered.row.dictionary;
+    let dictionary = &row.dictionary;
     Some(hand_out(dictionary, numbered.chosen, value, metadata_out, value_out))
 }
 
@@ -58,7 +59,7 @@ fn in_room<const NOTES: usize, const ROOM: usize>(
     metadata_out: &mut [u8],
     value_out: &mut [u8],
 ) -> Option<DocumentAnswer>
-    requires { IsNumbered numbered.now × Enough (length numbered.now.row.now.outermost.now) NOTES NOTES floor × (floor ≤ ROOM) × (ROOM ≤ most_walked) × (NOTES ≤ most_walked) }
+    requires { IsNumbered numbered.now × Enough (length numbered.now.row.now.parts.outermost.now) NOTES NOTES floor × (floor ≤ ROOM) × (ROOM ≤ most_walked) × (NOTES ≤ most_walked) }
     ensures { TriedAs (doc_of numbered.now) metadata_out.old metadata_out.new value_out.old value_out.new ROOM floor result }
 {
     let mut places = [0u16; NOTES];
@@ -84,20 +85,23 @@ fn in_short_room(
     requires { IsNumbered numbered.now }
     ensures { SomeTried (doc_of numbered.now) metadata_out.old metadata_out.new value_out.old value_out.new result }
 {
-    match numbered.row.outermost.len() {
+    let row = numbered.row;
+    match row.parts.outermost.len() {
         0..=128 => in_room::<128, 1024>(numbered, 256, metadata_out, value_out),
         129..=1024 => in_room::<1024, 6144>(numbered, 2048, metadata_out, value_out),
         _ => None,
     }
 }
 
-// Writes by way of the long room. Its floor is at twice the longest leftover, and above it the longest value fits.
+// Writes by way of the long room, which has a frame of its own, so that a short row does not take its stack. Its floor is at
+// twice the longest leftover, and above it the longest value fits.
+#[inline(never)]
 fn in_long_room<const NOTES: usize>(
     numbered: &NumberedRow,
     metadata_out: &mut [u8],
     value_out: &mut [u8],
 ) -> DocumentAnswer
-    requires { IsNumbered numbered.now × (length numbered.now.row.now.outermost.now ≤ NOTES) × (NOTES ≤ most_walked) }
+    requires { IsNumbered numbered.now × (length numbered.now.row.now.parts.outermost.now ≤ NOTES) × (NOTES ≤ most_walked) }
     ensures { Answered (written (doc_of numbered.now)) metadata_out.old metadata_out.new value_out.old value_out.new result }
 {
     let tried = in_room::<NOTES, 49152>(numbered, 32768, metadata_out, value_out);
@@ -116,7 +120,8 @@ pub fn with_room(
     if let Some(answer) = in_short_room(numbered, metadata_out, value_out) {
         return answer;
     }
-    if numbered.row.outermost.len() <= 16384 {
+    let row = numbered.row;
+    if row.parts.outermost.len() <= 16384 {
         return in_long_room::<16384>(numbered, metadata_out, value_out);
     }
     in_long_room::<65536>(numbered, metadata_out, value_out)

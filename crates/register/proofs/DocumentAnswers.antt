@@ -10,8 +10,8 @@ use borrow.Author.Tests.{le-leb, lt-leb}
 use lib.Dec.{leb}
 use lib.ListN.{length}
 use Rattle.boxes.specs.Sides.{Lawful as BoxLawful}
-use Rattle.dictionary.specs.Lent.{LentNames}
-use Rattle.documents.specs.Judged.{lent_read, document_by, document_of}
+use Rattle.dictionary.specs.Lent.{LentNames, lent_read}
+use Rattle.documents.specs.Judged.{document_by, document_of}
 use Rattle.paper.specs.Bounds.{most_walked}
 use Rattle.paper.specs.Boxes.{box_of}
 use Rattle.paper.specs.Limits.{most_levels, most_path}

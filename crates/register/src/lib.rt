@@ -2,9 +2,12 @@
 // definition of `paper`. Each stands in `register_c` as a function for C.
 #![tactic(auto)]
 
-ghost use Rattle.std.specs.Prelude.{◌≡◌, true, Err, MatchResult};
+ghost use Rattle.std.specs.Prelude.{◌≡◌, ◌≤◌, true, length, Err, MatchResult};
 ghost use Rattle.normalise.specs.Answered.{Answered};
 ghost use Rattle.paper.specs.Operations.{normalise_outcome, shred_outcome, rebuild_outcome, check_answer, find_answer, judge_answer, cell_answer, box_answer};
+ghost use Rattle.paper.specs.Limits.{most_schema, most_row};
+ghost use Rattle.paper.specs.Schemas.{schema_of};
+ghost use Rattle.paper.specs.Words.{is_there};
 ghost use Rattle.handing.specs.Handing.{RowAnswered};
 ghost use Rattle.rebuild.specs.Rebuilding.{Judged};
 ghost use Rattle.words.specs.Boundary.{document_has_room};
@@ -71,13 +74,9 @@ pub fn shred(schema: &[u8], metadata: &[u8], value: &[u8], row: &mut [u8]) -> Ro
 
 // ---- a row judged
 
-// A row judged under a schema: 1, 4, 6 and 7. Of a lawful row the table tells each schema field's id in its dictionary.
-fn judge_row<'a>(
-    schema: &[u8],
-    row: &'a [u8],
-    table: &mut [u16; 456],
-) -> Result<RowParts<'a>, Refusal>
-    ensures { MatchResult result (λ parts. (judged : Judged schema.now parts table.new) × (judged.bytes ≡ row.now)) (λ refusal. Err refusal ≡ judge_answer schema.now row.now) }
+// What is judged before a table is laid out, the lengths and the schema: 1 and 4.
+fn admit(schema: &[u8], row: &[u8]) -> Result<(), Refusal>
+    ensures { MatchResult result (λ _. (is_there (schema_of schema.now) ≡ true) × (length schema.now ≤ most_schema) × (length row.now ≤ most_row)) (λ refusal. Err refusal ≡ judge_answer schema.now row.now) }
 {
     if paper::MOST_SCHEMA < schema.len() || paper::MOST_ROW < row.len() {
         return Err(Refusal::TooLong);
@@ -85,6 +84,18 @@ fn judge_row<'a>(
     if !schemas::good(schema) {
         return Err(Refusal::BadSchema);
     }
+    Ok(())
+}
+
+// A row judged under a good schema: 6 and 7. Of a lawful row the table tells each schema field's id in its dictionary.
+fn judge_row<'a>(
+    schema: &[u8],
+    row: &'a [u8],
+    table: &mut [u16; 456],
+) -> Result<RowParts<'a>, Refusal>
+    requires { (is_there (schema_of schema.now) ≡ true) × (length schema.now ≤ most_schema) × (length row.now ≤ most_row) }
+    ensures { MatchResult result (λ parts. (judged : Judged schema.now parts table.new) × (judged.bytes ≡ row.now)) (λ refusal. Err refusal ≡ judge_answer schema.now row.now) }
+{
     rows::judge(schema, row, table)
 }
 
@@ -92,6 +103,7 @@ fn judge_row<'a>(
 pub fn judge(schema: &[u8], row: &[u8]) -> Result<(), Refusal>
     ensures { result ≡ judge_answer schema.now row.now }
 {
+    admit(schema, row)?;
     let mut table = [0; 456];
     judge_row(schema, row, &mut table)?;
     Ok(())
@@ -109,6 +121,7 @@ pub fn rebuild_row(
 ) -> DocumentAnswer
     ensures { Answered (rebuild_outcome schema.now row.now) metadata_out.old metadata_out.new value_out.old value_out.new result × (document_has_room result ≡ true) }
 {
+    admit(schema, row)?;
     let mut table = [0; 456];
     let parts = judge_row(schema, row, &mut table)?;
     rebuild::rebuild(schema, &parts, &table, metadata_out, value_out)

@@ -6,22 +6,22 @@ ghost use Rattle.paper.specs.Schemas.{schema_of};
 ghost use Rattle.paper.specs.Words.{is_there};
 ghost use Rattle.rows.specs.Judging.{OpenedAs, PartsReady, TableTells, Walked, JudgedAs};
 
+use crate::opened::OpenRow;
 use crate::walker::Walk;
-use dictionary::Dictionary;
 use heads::Readings;
 use paper::Refusal;
 use places::{Verdict, row_halves};
 
-// What was read of a row: its dictionary, and what its outermost place holds. Each schema field's id in the dictionary is in the
-// table that was lent.
-#[derive(Drop)]
+// What was read of a row: its metadata, which keeps its rules, and what its outermost place holds. Each schema field's id in the
+// dictionary that the metadata opens to is in the table that was lent.
+#[derive(Clone, Copy)]
 pub struct RowParts<'a> {
-    pub dictionary: Dictionary<'a>,
+    pub metadata: &'a [u8],
     pub outermost: &'a [u8],
 }
 
 // Opens a row: `40` metadata that keeps its rules, `50` the outermost place, nothing more.
-fn open_row(row: &[u8]) -> Option<RowParts<'_>>
+fn open_row(row: &[u8]) -> Option<OpenRow<'_>>
     ensures { OpenedAs row.now result }
 {
     let middle = row_halves(row)?;
@@ -31,64 +31,69 @@ fn open_row(row: &[u8]) -> Option<RowParts<'_>>
     if paper::MOST_METADATA < middle - 3 {
         return None;
     }
-    let dictionary = dictionary::judge(&row[3..middle])?;
+    let metadata = &row[3..middle];
+    let dictionary = dictionary::judge(metadata)?;
     if row[middle] != 0x50 {
         return None;
     }
-    Some(RowParts {
+    let outermost = &row[middle + 3..];
+    Some(OpenRow {
+        parts: RowParts {
+            metadata,
+            outermost,
+        },
         dictionary,
-        outermost: &row[middle + 3..],
     })
 }
 
 // Walks the outermost place, with a table that tells each schema field's id.
-fn outermost(schema: &[u8], parts: &RowParts, table: &[u16]) -> Verdict
-    requires { PartsReady schema.now parts.now table.now × TableTells schema.now parts.now table.now }
-    ensures { Walked schema.now parts.now table.now result }
+fn outermost(schema: &[u8], row: &OpenRow, table: &[u16]) -> Verdict
+    requires { PartsReady schema.now row.now table.now × TableTells schema.now row.now.dictionary table.now }
+    ensures { Walked schema.now row.now table.now result }
 {
     let walk = Walk {
         readings: &Readings::new(),
-        dictionary: &parts.dictionary,
+        dictionary: &row.dictionary,
         schema,
         table,
     };
-    walk.place(paper::MOST_LEVELS, 0, parts.outermost)
+    walk.place(paper::MOST_LEVELS, 0, row.parts.outermost)
 }
 
 // Finds the id of each schema field, and walks the outermost place.
-fn walk(schema: &[u8], parts: &RowParts, order: &mut [u16], table: &mut [u16]) -> Verdict
-    requires { PartsReady schema.now parts.now table.old × (parts.now.dictionary.sorted ≡ false → length parts.now.dictionary.names ≤ length order.old) }
-    ensures { Walked schema.now parts.now table.new result }
+fn walk(schema: &[u8], row: &OpenRow, order: &mut [u16], table: &mut [u16]) -> Verdict
+    requires { PartsReady schema.now row.now table.old × (row.now.dictionary.sorted ≡ false → length row.now.dictionary.names ≤ length order.old) }
+    ensures { Walked schema.now row.now table.new result }
 {
-    lookup::sort_names(&parts.dictionary, order);
-    fields::fill(schema, &parts.dictionary, order, table);
-    outermost(schema, parts, table)
+    lookup::sort_names(&row.dictionary, order);
+    fields::fill(schema, &row.dictionary, order, table);
+    outermost(schema, row, table)
 }
 
 // Walks with room for the index of so many names.
-fn walk_with<const N: usize>(schema: &[u8], parts: &RowParts, table: &mut [u16]) -> Verdict
-    requires { PartsReady schema.now parts.now table.old × (parts.now.dictionary.sorted ≡ false → length parts.now.dictionary.names ≤ N) × (N ≤ most_names) }
-    ensures { Walked schema.now parts.now table.new result }
+fn walk_with<const N: usize>(schema: &[u8], row: &OpenRow, table: &mut [u16]) -> Verdict
+    requires { PartsReady schema.now row.now table.old × (row.now.dictionary.sorted ≡ false → length row.now.dictionary.names ≤ N) × (N ≤ most_names) }
+    ensures { Walked schema.now row.now table.new result }
 {
     let mut order = [0u16; N];
-    walk(schema, parts, &mut order, table)
+    walk(schema, row, &mut order, table)
 }
 
 // Where no field is named nothing is looked up. The index of the names goes by their number; a sorted dictionary needs none.
-fn walk_indexed(schema: &[u8], parts: &RowParts, table: &mut [u16]) -> Verdict
-    requires { PartsReady schema.now parts.now table.old }
-    ensures { Walked schema.now parts.now table.new result }
+fn walk_indexed(schema: &[u8], row: &OpenRow, table: &mut [u16]) -> Verdict
+    requires { PartsReady schema.now row.now table.old }
+    ensures { Walked schema.now row.now table.new result }
 {
     if !fields::names_fields(schema) {
-        return outermost(schema, parts, table);
+        return outermost(schema, row, table);
     }
-    if parts.dictionary.is_sorted() {
-        return walk_with::<1>(schema, parts, table);
+    if row.dictionary.is_sorted() {
+        return walk_with::<1>(schema, row, table);
     }
-    match parts.dictionary.len() {
-        0..=64 => walk_with::<64>(schema, parts, table),
-        65..=1024 => walk_with::<1024>(schema, parts, table),
-        _ => walk_with::<16384>(schema, parts, table),
+    match row.dictionary.len() {
+        0..=64 => walk_with::<64>(schema, row, table),
+        65..=1024 => walk_with::<1024>(schema, row, table),
+        _ => walk_with::<16384>(schema, row, table),
     }
 }
 
@@ -97,9 +102,9 @@ pub fn judge<'a>(schema: &[u8], row: &'a [u8], table: &mut [u16]) -> Result<RowP
     requires { (is_there (schema_of schema.now) ≡ true) × (length schema.now / 9 ≤ length table.old) × (length row.now ≤ most_row) }
     ensures { JudgedAs schema.now row.now table.new result }
 {
-    let parts = open_row(row).ok_or(Refusal::BadRow)?;
-    match walk_indexed(schema, &parts, table) {
-        Verdict::Lawful => Ok(parts),
+    let opened = open_row(row).ok_or(Refusal::BadRow)?;
+    match walk_indexed(schema, &opened, table) {
+        Verdict::Lawful => Ok(opened.parts),
         Verdict::Broken => Err(Refusal::BrokenRule),
         Verdict::Unparsed => Err(Refusal::BadRow),
     }

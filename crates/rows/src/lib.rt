@@ -2,7 +2,9 @@
 #![tactic(auto)]
 
 mod judging;
+mod opened;
 mod quick;
 mod walker;
 
 pub use judging::{RowParts, judge};
+pub use opened::OpenRow;

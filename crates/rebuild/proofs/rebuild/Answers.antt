@@ -4,6 +4,7 @@ use Rattle.places.proofs.PlaceLaws.{one_long}
 use Rattle.rebuild.proofs.AloneLaws.{alone_typed, empty_answers}
 use Rattle.rebuild.proofs.LeftoverLaws.{left_lent, left_answers}
 use Rattle.rebuild.proofs.MeaningLaws.{row_answers}
+use Rattle.rebuild.proofs.NumberedLaws.{metadata_there}
 use Rattle.rebuild.proofs.rebuild.Goals as goal
 
 pub slice_bounds-normalise-count : goal.slice_bounds-normalise-count
@@ -11,6 +12,9 @@ slice_bounds-normalise-count c = search (rules, one_long)
 
 pub slice_bounds-normalise-start : goal.slice_bounds-normalise-start
 slice_bounds-normalise-start c = search (rules, one_long)
+
+pub open-requires : goal.open-requires
+open-requires c = metadata_there c.requires
 
 pub normalise-requires : goal.normalise-requires
 normalise-requires c = search (rules, left_lent)

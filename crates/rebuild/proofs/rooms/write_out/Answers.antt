@@ -20,8 +20,8 @@ slice_bounds-value-start c = let inside = put_starts (value_put c.requires.0 c.p
     search rules
 
 pub hand_out-requires : goal.hand_out-requires
-hand_out-requires c = c.requires.0.choice
+hand_out-requires c = rw c.args.numbered.now.row.now.opens c.requires.0.choice
 
 pub returns : goal.returns
 returns c = let pre = c.requires in
-    put_answers (value_put pre.0 c.place.ensures) c.in_ok-start.was pre.0.used c.hand_out.ensures
+    put_answers (value_put pre.0 c.place.ensures) c.in_ok-start.was (rw c.args.numbered.now.row.now.opens pre.0.used) c.hand_out.ensures
