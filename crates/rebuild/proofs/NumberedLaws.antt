@@ -74,7 +74,7 @@ module _ {schema table : List ℕ} {row : RowParts} (judged : Judged schema row 
 
   -- So the metadata that was handed on keeps its rules, and what is opened of it is that dictionary.
   opens : lent_of row.metadata.now ≡ Some (row_dictionary row)
-  opens = ap lent_of judged.handed.in_order.found ∙ judged.handed.in_order.opens
+  opens = ap lent_of judged.handed.found ∙ judged.handed.in_order.opens
 
   pub metadata_there : is_there (dictionary_of row.metadata.now) ≡ true
   metadata_there = lent_there (record { metadata = row.metadata.now; opens = opens })

@@ -99,12 +99,12 @@ module _ (row : List ℕ) (r : Option ℕ) (told : r ≡ middle_of row) where
                 first_long = h.first_long;
                 second_long = h.second_long;
                 halved = sym told ∙ e;
-                found = found;
                 opens = rw read (sym is ∙ f);
                 short = rw read (omega arith);
                 holds = holds;
                 comes_to = λ schema. rw (read, holds) (row_place schema row middle h tag short d.names (lent_dictionary lent) place);
               })
+              found
 
 -- ---- a row walked
 
@@ -133,12 +133,13 @@ sorted_none flag set clear = never (sym set ∙ clear)
 
 -- ---- a row judged
 
-row_in : {bytes : List ℕ} {o : Option OpenRow} → OpenedAs bytes o → {row : OpenRow} → o ≡ Some row → InOrder bytes row.parts
-row_in (opened_row one in_order) {row} e = let same : one ≡ row = cc in rw (← same) in_order
+row_in : {bytes : List ℕ} {o : Option OpenRow} → OpenedAs bytes o → {row : OpenRow} → o ≡ Some row
+    → (in_order : InOrder bytes row.parts) × (row.parts.metadata.now ≡ part bytes 3 in_order.middle)
+row_in (opened_row one in_order found) {row} e = let same : one ≡ row = cc in rw (← same) (in_order, found)
 row_in (unopened never-parses) e = cc
 
 row_out : {bytes : List ℕ} {o : Option OpenRow} → OpenedAs bytes o → o ≡ None → (schema : Schema) → Unparsed ≡ row_verdict schema bytes
-row_out (opened_row row in_order) e = cc
+row_out (opened_row row in_order found) e = cc
 row_out (unopened never-parses) e = never-parses
 
 -- What comes of it where 6 is said of a row that is not opened.
@@ -163,7 +164,7 @@ module _ {schema bytes : List ℕ} {o : Option OpenRow} (told : OpenedAs bytes o
   module _ {row : OpenRow} (e : o ≡ Some row) where
     pub judged_ready : {table : List ℕ} → is_there (schema_of schema) ≡ true → length schema / 9 ≤ length table → length bytes ≤ most_row → PartsReady schema row table
     judged_ready good tabled short =
-        let here = row_in told e in
+        let here = (row_in told e).0 in
         let lent : Lent (row_dictionary row.parts) = record { metadata = part bytes 3 here.middle; opens = here.opens } in
         let size = ap length here.holds in
         let within : length (part bytes (here.middle + 3) (length bytes)) ≤ length bytes = simp (length-take, length-drop) (omega arith) in
@@ -179,7 +180,7 @@ module _ {schema bytes : List ℕ} {o : Option OpenRow} (told : OpenedAs bytes o
       -- What was walked is the row, and the table tells of what its metadata opens to.
       came_to : (node : Schema) → schema_of schema ≡ Some node → v ≡ row_verdict node bytes
       came_to node is =
-          walk.verdict_is node is ∙ ap (λ (d : LentNames). place_verdict node most_levels d.names row.parts.outermost.now) row.opens ∙ (row_in told e).comes_to node
+          walk.verdict_is node is ∙ ap (λ (d : LentNames). place_verdict node most_levels d.names row.parts.outermost.now) row.opens ∙ (row_in told e).0.comes_to node
 
       told_on : TableTells schema (row_dictionary row.parts) after
       told_on = subst (λ (d : LentNames). TableTells schema d after) row.opens walk.told
@@ -188,7 +189,7 @@ module _ {schema bytes : List ℕ} {o : Option OpenRow} (told : OpenedAs bytes o
       judged_lawful f =
           record {
             verdict_is = λ node is. sym f ∙ came_to node is;
-            handed = λ other g. let same : row.parts ≡ other = cc in rw (← same) (record { in_order = row_in told e; told = told_on });
+            handed = λ other g. let same : row.parts ≡ other = cc in rw (← same) (record { in_order = (row_in told e).0; found = (row_in told e).1; told = told_on });
             refused = λ r g. cc;
           }
 

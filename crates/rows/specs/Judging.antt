@@ -26,14 +26,13 @@ pub record InOrder (row : List ℕ) (parts : RowParts) : Type 0 where
   pub first_long : 3 ≤ middle
   pub second_long : middle + 3 ≤ length row
   pub halved : middle_of row ≡ Some middle
-  pub found : parts.metadata.now ≡ part row 3 middle
   pub opens : lent_of (part row 3 middle) ≡ Some (row_dictionary parts)
   pub short : (row_dictionary parts).size ≤ most_metadata
   pub holds : parts.outermost.now ≡ part row (middle + 3) (length row)
   pub comes_to : (schema : Schema) → place_verdict schema most_levels (row_dictionary parts).names parts.outermost.now ≡ row_verdict schema row
 
 pub data OpenedAs (bytes : List ℕ) : Option OpenRow → Type 0 where
-  opened : (row : OpenRow) → InOrder bytes row.parts → OpenedAs bytes (Some row)
+  opened : (row : OpenRow) (in_order : InOrder bytes row.parts) → row.parts.metadata.now ≡ part bytes 3 in_order.middle → OpenedAs bytes (Some row)
   unopened : ((schema : Schema) → Unparsed ≡ row_verdict schema bytes) → OpenedAs bytes None
 
 -- An opened row's parts under a good schema, with a table for the ids of the schema's fields.
@@ -59,6 +58,7 @@ pub record Walked (schema : List ℕ) (row : OpenRow) (table : List ℕ) (verdic
 -- metadata opens to.
 pub record HandedOn (schema row : List ℕ) (table : List ℕ) (parts : RowParts) : Type 0 where
   pub in_order : InOrder row parts
+  pub found : parts.metadata.now ≡ part row 3 in_order.middle
   pub told : TableTells schema (row_dictionary parts) table
 
 -- A row that breaks a rule is refused by 7, one that does not parse by 6, and by nothing else.
